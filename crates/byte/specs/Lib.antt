@@ -1,0 +1,3 @@
+pub mod Arithmetic
+pub mod Shift
+pub mod Flags

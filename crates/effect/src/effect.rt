@@ -1,0 +1,34 @@
+// What an instruction does, as a small record. No instruction writes two places: each writes nothing, one register, one memory byte or one output
+// byte, and leaves pc, sp, flags and the input's place.
+pub enum Write {
+    Nothing,
+    // the register, and the byte that it takes
+    Register(u8, u8),
+    // the address, and the byte that it takes
+    Memory(u8, u8),
+    Output(u8),
+}
+
+pub struct Effect {
+    pub write: Write,
+    pub pc: u8,
+    pub sp: u8,
+    pub flags: u8,
+    pub place: usize,
+}
+
+// Why an instruction may not complete.
+pub enum Fault {
+    InvalidOpcode { opcode: u8, pc: u8 },
+    StackFull(u8),
+    StackEmpty(u8),
+    DivisorZero(u8),
+    NoInput,
+    NoRoom,
+}
+
+pub enum Turn {
+    Done(Effect),
+    Halt,
+    Refused(Fault),
+}

@@ -1,0 +1,4 @@
+pub mod Operands
+pub mod Decode
+pub mod Encode
+pub mod Numbers

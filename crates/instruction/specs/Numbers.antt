@@ -1,0 +1,22 @@
+-- "Numbers that come back": the paper's number and values for each case of an answer, one definition for each enum.
+use Prim.Native.Nat.{ℕ}
+use mathlib.Core.List.{List, [], _∷_}
+use Rattle.instruction.specs.declared.decode.Decoded.{Decoded}
+use Rattle.instruction.specs.declared.decode.Decoded.the-variants.{Instruction, Invalid}
+use Rattle.instruction.specs.declared.encode.EncodeAnswer.{EncodeAnswer}
+use Rattle.instruction.specs.declared.encode.EncodeAnswer.the-variants.{Done, OtherForm, NoSuchRegister}
+use Rattle.instruction.specs.declared.encode.Encoded.{Encoded}
+use Rattle.instruction.specs.Decode.{Decoding, instruction, refused}
+use Rattle.instruction.specs.Encode.{Encoding}
+
+abbrev pub decoding : Decoded → Decoding
+decoding (Instruction o a) = instruction o a
+decoding (Invalid opcode) = refused (3 ∷ opcode ∷ [])
+
+abbrev pub encodeNumber : EncodeAnswer → List ℕ
+encodeNumber Done = 0 ∷ []
+encodeNumber OtherForm = 12 ∷ []
+encodeNumber NoSuchRegister = 13 ∷ []
+
+abbrev pub encoding : Encoded → Encoding
+encoding r = record { answer = encodeNumber (r .answer); bytes = r .bytes; length = r .length }

@@ -1,0 +1,48 @@
+-- What a step leaves: a refused one everything, a completed one flags that the flag methods give.
+use mathlib.Core.Path.{_≡_, refl, sym, _∙_, ap}
+use mathlib.Core.Bool.{Bool, true, false}
+use mathlib.Core.List.{List, [], _∷_}
+use Prim.Native.Nat.{ℕ, _≤_}
+use native.Mathlib.Omega.{arith}
+use lib.Dec.{eqb}
+use Rattle.effect.specs.declared.effect.Effect.{Effect}
+use Rattle.effect.specs.Effects.{Fate, done, halt, refused}
+use Rattle.effect.specs.Numbers.{numberOf}
+use Rattle.turn.specs.Turn.{turnOf}
+use Rattle.turn.proofs.Laws.{Moved, executed, flags-moved}
+use Rattle.instruction.specs.Operands.{firstOf, secondOf}
+use Rattle.nanocore.specs.Machine.{mostCount}
+use Rattle.nanocore.specs.Step.{Situation, Answered, viewOf, counted, settled, unhalted, stepOf}
+use Rattle.nanocore.proofs.RunLaws.{Went, goes, stops, went, step-awake}
+
+-- "Refusals 2 to 9 leave machine, places and output as found"
+counted-same : (b : Bool) (e : Effect) (s : Situation) → 2 ≤ numberOf (counted b e s .answer) → counted b e s .after ≡ s
+counted-same true e s h = refl
+counted-same false e s h = absurd (omega arith)
+
+settled-same : (f : Fate) (s : Situation) → 2 ≤ numberOf (settled f s .answer) → settled f s .after ≡ s
+settled-same (refused n) s h = refl
+settled-same halt s h = absurd (omega arith)
+settled-same (done e) s h = counted-same (eqb (s .machine .count) mostCount) e s h
+
+unhalted-same : (b : Bool) (f : Fate) (s : Situation) → 2 ≤ numberOf (unhalted b f s .answer) → unhalted b f s .after ≡ s
+unhalted-same true f s h = refl
+unhalted-same false f s h = settled-same f s h
+
+pub refused-same : (input : List ℕ) (s : Situation) → 2 ≤ numberOf (stepOf input s .answer) → stepOf input s .after ≡ s
+unfolding stepOf
+refused-same input s h = unhalted-same (s .machine .halted) (turnOf (viewOf input s)) s h
+
+-- the flags that a step leaves are those before it, or what update_zn_flags makes of them, or that with C put by set_flag or clear_flag
+pub step-flags :
+    (input : List ℕ) (s : Situation) → s .machine .halted ≡ false → stepOf input s .answer ≡ 0 ∷ [] →
+    Moved (s .machine .flags) (stepOf input s .after .machine .flags)
+step-flags input s h zero = rw (step-awake input s h) (by (went input s))
+  where
+    by : Went input s → Moved (s .machine .flags) (settled (turnOf (viewOf input s)) s .after .machine .flags)
+    by (goes e d t) =
+        let own = executed (viewOf input s) e d in
+        rw (t, ← own .effect) (flags-moved (firstOf (own .operands)) (secondOf (own .operands)) (viewOf input s) (own .op))
+    by (stops n t some two nine kept) =
+        let none : numberOf (settled (turnOf (viewOf input s)) s .answer) ≡ 0 = ap numberOf (sym (ap (λ r. r .answer) (step-awake input s h)) ∙ zero) in
+        absurd (omega arith)

@@ -1,0 +1,166 @@
+-- The turns that are left, from here, come to what all of them come to from the start.
+use mathlib.Core.Path.{_≡_, refl, sym, _∙_, ap}
+use mathlib.Core.Bool.{false}
+use mathlib.Core.List.{List}
+use Prim.Native.Nat.{ℕ, _≤_}
+use borrow.Author.Needs.{needs}
+use borrow.Author.Tests.{ltb-true}
+use lib.ListN.{length}
+use Rattle.effect.specs.declared.core.Core.{Core}
+use Rattle.effect.specs.Numbers.{fate}
+use Rattle.turn.proofs.Laws.{prints-room}
+use Rattle.nanocore.specs.Step.{Situation}
+use Rattle.nanocore.specs.Turns.{turnsOf}
+use Rattle.nanocore.proofs.TurnLaws.{fault-stops, turns-none, turns-refused, turns-halted, turns-full, turns-done}
+use Rattle.nanocore.proofs.turns.turns.Statement.{statement}
+use Rattle.nanocore.proofs.turns.turns.Tie as tie
+
+-- the situation that the locals make
+abbrev here : List ℕ → List ℕ → Core → ℕ → ℕ → List ℕ → ℕ → Situation
+here registers memory core count limit output number =
+    record {
+      machine =
+          record {
+            registers = registers;
+            memory = memory;
+            pc = core .pc;
+            sp = core .sp;
+            flags = core .flags;
+            halted = false;
+            count = count;
+            limit = limit;
+          };
+      place = core .place;
+      output = output;
+      written = number;
+    }
+
+abbrev Inv-loop : tie.InvT-loop
+Inv-loop most input place output₀ written registers₀ memory₀ core₀ count₀ limit number₀ left₀ output registers memory core count number left =
+    (length output ≡ length output₀)
+    × (count ≤ 65535)
+    × (turnsOf left input (here registers memory core count limit output number)
+    ≡ turnsOf left₀ input (here registers₀ memory₀ core₀ count₀ limit output₀ number₀))
+
+abbrev μ-loop : tie.MeasureT-loop
+μ-loop most input place output₀ written registers₀ memory₀ core₀ count₀ limit number₀ left₀ output registers memory core count number left =
+    left
+
+loop-holds : tie.Need-loop-holds Inv-loop μ-loop
+loop-holds c = (refl, search needs, refl)
+
+turn-requires : tie.Need-turn-requires Inv-loop μ-loop
+turn-requires c κs = search needs
+
+enum-known-fault : tie.Need-enum-known-fault Inv-loop μ-loop
+enum-known-fault c = search needs
+
+ended-requires : tie.Need-ended-requires Inv-loop μ-loop
+ended-requires c κs = search needs
+
+same-length : tie.Need-same-length Inv-loop μ-loop
+same-length c = search needs
+
+returns : tie.Need-returns Inv-loop μ-loop
+returns c =
+    let f = c .before .before .fault .given in
+    let now = sym (c .before .before .before .before .turn .ensures) ∙ ap fate (f .1) in
+    rw (c .ended .ensures)
+    (sym (turns-refused _ _ _ (c .before .before .before .before .before .before .before .loop-test .taken) _ now (fault-stops (f .0 .0))) ∙ c .before .before .before .before .before .before .before .before .loop .inv .2)
+
+enum-told : tie.Need-enum-told Inv-loop μ-loop
+enum-told c = search needs
+
+ended-requires-2 : tie.Need-ended-requires-2 Inv-loop μ-loop
+ended-requires-2 c κs = search needs
+
+same-length-2 : tie.Need-same-length-2 Inv-loop μ-loop
+same-length-2 c = search needs
+
+returns-2 : tie.Need-returns-2 Inv-loop μ-loop
+returns-2 c =
+    rw (c .ended2 .ensures)
+    (sym (turns-halted _ _ _ (c .before .before .before .before .before .before .loop-test .taken) (sym (c .before .before .before .turn .ensures) ∙ ap fate (c .before .enum-told .given .1))) ∙ c .before .before .before .before .before .before .before .loop .inv .2)
+
+enum-known-effect : tie.Need-enum-known-effect Inv-loop μ-loop
+enum-known-effect c = search needs
+
+ended-requires-3 : tie.Need-ended-requires-3 Inv-loop μ-loop
+ended-requires-3 c κs = search needs
+
+same-length-3 : tie.Need-same-length-3 Inv-loop μ-loop
+same-length-3 c = search needs
+
+returns-3 : tie.Need-returns-3 Inv-loop μ-loop
+returns-3 c =
+    rw (c .ended3 .ensures)
+    (sym (turns-full _ _ _ (c .before .before .before .before .before .before .before .before .loop-test .taken) _ (sym (c .before .before .before .before .before .turn .ensures) ∙ ap fate (c .before .before .before .effect .given .1)) (c .before .if1 .taken)) ∙ c .before .before .before .before .before .before .before .before .before .loop .inv .2)
+
+write-register-requires : tie.Need-write-register-requires Inv-loop μ-loop
+write-register-requires c κs = search needs
+
+write-memory-requires : tie.Need-write-memory-requires Inv-loop μ-loop
+write-memory-requires c κs = search needs
+
+write-output-requires : tie.Need-write-output-requires Inv-loop μ-loop
+write-output-requires c κs =
+    λ p. ltb-true _ _ (prints-room _ _ (sym (c .before .before .before .before .before .before .before .before .turn .ensures) ∙ ap fate (c .before .before .before .before .before .before .effect .given .1)) p)
+
+add-count : tie.Need-add-count Inv-loop μ-loop
+add-count c = search needs
+
+sub-left : tie.Need-sub-left Inv-loop μ-loop
+sub-left c = search needs
+
+loop-less : tie.Need-loop-less Inv-loop μ-loop
+loop-less c = search needs
+
+loop-again : tie.Need-loop-again Inv-loop μ-loop
+loop-again c =
+    let l = c .before .before .before .before .before .before .before .before .before .before .before .before .before .before .before .loop in (
+      search needs,
+      search needs,
+      rw (c .before .before .before .before .before .before .write-register .ensures, c .before .before .before .before .write-memory .ensures, c .before .before .write-output .ensures .0, c .before .before .write-output .ensures .1)
+          (sym (turns-done _ _ _ (c .before .before .before .before .before .before .before .before .before .before .before .before .before .before .loop-test .taken) _ (sym (c .before .before .before .before .before .before .before .before .before .before .before .turn .ensures) ∙ ap fate (c .before .before .before .before .before .before .before .before .before .effect .given .1)) (c .before .before .before .before .before .before .before .if1 .left)) ∙ l .inv .2),
+    )
+
+ended-requires-4 : tie.Need-ended-requires-4 Inv-loop μ-loop
+ended-requires-4 c κs = search needs
+
+same-length-4 : tie.Need-same-length-4 Inv-loop μ-loop
+same-length-4 c = search needs
+
+returns-4 : tie.Need-returns-4 Inv-loop μ-loop
+returns-4 c =
+    rw (c .ended4 .ensures) (sym (turns-none _ _ _ (c .before .loop-test .left)) ∙ c .before .before .loop .inv .2)
+
+pub turns-spec : {M : Type 1} → statement M
+turns-spec =
+    tie.close
+    (tie.spec
+    Inv-loop
+    μ-loop
+    loop-holds
+    turn-requires
+    enum-known-fault
+    ended-requires
+    same-length
+    returns
+    enum-told
+    ended-requires-2
+    same-length-2
+    returns-2
+    enum-known-effect
+    ended-requires-3
+    same-length-3
+    returns-3
+    write-register-requires
+    write-memory-requires
+    write-output-requires
+    add-count
+    sub-left
+    loop-less
+    loop-again
+    ended-requires-4
+    same-length-4
+    returns-4)

@@ -1,0 +1,52 @@
+-- "Numbers that come back": the paper's number and values of each case of what step, run and load answer.
+use Prim.Native.Nat.{ℕ}
+use mathlib.Core.List.{List, [], _∷_}
+use Rattle.effect.specs.Numbers.{faultNumber}
+use Rattle.nanocore.specs.declared.answer.LoadAnswer.{LoadAnswer}
+use Rattle.nanocore.specs.declared.answer.LoadAnswer.the-variants.{Loaded, TooLong}
+use Rattle.nanocore.specs.declared.answer.RunAnswer.{RunAnswer}
+use Rattle.nanocore.specs.declared.answer.RunAnswer.the-variants.{LimitReached}
+use Rattle.nanocore.specs.declared.answer.RunOutcome.{RunOutcome}
+use Rattle.nanocore.specs.declared.answer.StepAnswer.{StepAnswer}
+use Rattle.nanocore.specs.declared.answer.StepAnswer.the-variants.{Stepped, AlreadyHalted, CountFull}
+use Rattle.nanocore.specs.declared.answer.StepOutcome.{StepOutcome}
+use Rattle.nanocore.specs.declared.answer.LoadOutcome.{LoadOutcome}
+use Rattle.nanocore.specs.declared.machine.Machine.{Machine}
+use Rattle.nanocore.specs.Load.{Loading}
+use Rattle.nanocore.specs.Step.{Answered, situated}
+
+abbrev pub stepNumber : StepAnswer → List ℕ
+stepNumber Stepped = 0 ∷ []
+stepNumber StepAnswer.Halted = 1 ∷ []
+stepNumber AlreadyHalted = 2 ∷ []
+stepNumber (StepAnswer.Refused f) = faultNumber f
+stepNumber CountFull = 9 ∷ []
+
+abbrev pub runNumber : RunAnswer → List ℕ
+runNumber RunAnswer.Halted = 1 ∷ []
+runNumber (RunAnswer.Refused f) = faultNumber f
+runNumber (LimitReached limit) = 10 ∷ limit ∷ []
+
+-- what the turns up to the limit mean for a run: 10 where the last of them answered 0; the cases of 2 and 9 do not occur
+abbrev pub asRun : StepAnswer → ℕ → RunAnswer
+asRun Stepped limit = LimitReached limit
+asRun StepAnswer.Halted limit = RunAnswer.Halted
+asRun AlreadyHalted limit = RunAnswer.Halted
+asRun (StepAnswer.Refused f) limit = RunAnswer.Refused f
+asRun CountFull limit = LimitReached limit
+
+abbrev pub loadNumber : LoadAnswer → List ℕ
+loadNumber Loaded = 0 ∷ []
+loadNumber (TooLong length start) = 11 ∷ length ∷ start ∷ []
+
+-- what a caller has afterwards: the outcome, and the bytes of the lent buffer
+abbrev pub stepping : StepOutcome → List ℕ → Answered
+stepping r output =
+    record { answer = stepNumber (r .answer); after = situated (r .machine) (r .place) output (r .written) }
+
+abbrev pub running : RunOutcome → List ℕ → Answered
+running r output =
+    record { answer = runNumber (r .answer); after = situated (r .machine) (r .place) output (r .written) }
+
+abbrev pub loading : LoadOutcome → Loading
+loading r = record { answer = loadNumber (r .answer); machine = r .machine }

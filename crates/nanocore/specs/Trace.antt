@@ -1,0 +1,35 @@
+-- A run is stepping until it ends. The steps are those of the definition, one after the other, and their number is told by their answers alone.
+use Prim.Native.Nat.{ℕ, zero, suc, _+_, _≤_, _<_}
+use mathlib.Core.Path.{_≡_}
+use mathlib.Core.Bool.{true, false}
+use mathlib.Core.List.{List, [], _∷_}
+use Rattle.nanocore.specs.Step.{Situation, Answered, refusedAt, stepOf}
+use Rattle.nanocore.specs.Turns.{onward}
+
+-- the situation after so many steps
+abbrev pub afterSteps : ℕ → List ℕ → Situation → Situation
+afterSteps zero input s = s
+afterSteps (suc n) input s = afterSteps n input (stepOf input s .after)
+
+-- how a run ends where it stands: on a halted machine; at the limit; by a step that does not answer 0
+pub data Ended (input : List ℕ) (s : Situation) : Answered → Type 0 where
+  halted : s .machine .halted ≡ true → Ended input s (refusedAt (1 ∷ []) s)
+  limit : s .machine .halted ≡ false → s .machine .limit ≤ s .machine .count → Ended input s (refusedAt (10 ∷ s .machine .limit ∷ []) s)
+  step :
+      s .machine .halted ≡ false → s .machine .count < s .machine .limit → onward (stepOf input s .answer) ≡ false →
+      Ended input s (stepOf input s)
+
+pub record Ran (input : List ℕ) (s : Situation) (r : Answered) : Type 0 where
+  -- the completed steps that did not halt
+  pub steps : ℕ
+  -- before each of them the machine was not halted and its count was below its limit, and each answered 0
+  pub awake : (i : ℕ) → i < steps → afterSteps i input s .machine .halted ≡ false
+  pub below : (i : ℕ) → i < steps → afterSteps i input s .machine .count < afterSteps i input s .machine .limit
+  pub stepped : (i : ℕ) → i < steps → stepOf input (afterSteps i input s) .answer ≡ 0 ∷ []
+  -- after them the run ended
+  pub ended : Ended input (afterSteps steps input s) r
+  -- "The count equals the number of completed non-halting steps, added to where it began."
+  pub counted : r .after .machine .count ≡ s .machine .count + steps
+  -- the limit is never moved, and a count that began at or below it ends so
+  pub limitKept : r .after .machine .limit ≡ s .machine .limit
+  pub within : s .machine .count ≤ s .machine .limit → r .after .machine .count ≤ s .machine .limit

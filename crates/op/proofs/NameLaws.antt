@@ -1,0 +1,87 @@
+-- Laws of the names that the crates above cite: a name written is read back as its operation, and a text that is read as an
+-- operation is that operation's name, byte for byte.
+use mathlib.Core.Path.{_≡_, refl, sym, _∙_, ap}
+use mathlib.Core.Bool.{Bool, true, false}
+use mathlib.Core.List.{List, [], _∷_}
+use Prim.Native.Nat.{ℕ, _+_, _≤_, _<_}
+use native.Mathlib.Numerals.{add-one}
+use lib.Dec.{eqb, leb}
+use lib.ListN.{length, getD, take, drop}
+use lib.Seq.{drop-cons}
+use borrow.Author.Tests.{eqb-true, eq-eqb, leb-true}
+use Rattle.op.specs.declared.operation.Op.{Op}
+use Rattle.op.specs.declared.operation.Lookup.{Lookup}
+use Rattle.op.specs.declared.operation.Lookup.the-variants.{Found}
+use Rattle.op.specs.Operations.{ops}
+use Rattle.op.specs.Names.{nameOf, spelled, sameText, also, pickLookup, nameIn, named}
+use Rattle.op.proofs.Laws.{agree}
+
+also-left : (a b : Bool) → also a b ≡ true → a ≡ true
+also-left true b e = refl
+also-left false b e = e
+
+also-right : (a b : Bool) → also a b ≡ true → b ≡ true
+also-right true b e = e
+also-right false b e = cc
+
+pub sameText-refl : (s : List ℕ) → sameText s s ≡ true
+sameText-refl [] = refl
+sameText-refl (a ∷ s) = rw (eq-eqb a a refl) (sameText-refl s)
+
+pub sameText-eq : (s t : List ℕ) → sameText s t ≡ true → s ≡ t
+sameText-eq [] [] e = refl
+sameText-eq [] (b ∷ t) e = cc
+sameText-eq (a ∷ s) [] e = cc
+sameText-eq (a ∷ s) (b ∷ t) e =
+    cc (eqb-true a b (also-left (eqb a b) (sameText s t) e), sameText-eq s t (also-right (eqb a b) (sameText s t) e))
+
+-- two tests that imply each other are one
+both-ways : (a b : Bool) → (a ≡ true → b ≡ true) → (b ≡ true → a ≡ true) → a ≡ b
+both-ways true b f g = sym (f refl)
+both-ways false true f g = g refl
+both-ways false false f g = refl
+
+-- a test that holds exactly where two texts are equal is the definition's
+pub same-text : (r : Bool) (s t : List ℕ) → (r ≡ true → s ≡ t) → (s ≡ t → r ≡ true) → r ≡ sameText s t
+same-text r s t f g =
+    both-ways r (sameText s t) (λ e. rw (f e) (sameText-refl t)) (λ e. g (sameText-eq s t e))
+
+-- a search through the list at its place k: found there, or looked for from the next place on
+pub hit :
+    (os : List Op) (t : List ℕ) (k : ℕ) (d : Op) → k < length os → sameText t (nameOf (getD os k d)) ≡ true →
+    nameIn (drop k os) t ≡ Found (getD os k d)
+hit os t k d h e = rw (drop-cons os k d h, e)
+
+pub miss :
+    (os : List Op) (t : List ℕ) (k : ℕ) (d : Op) → k < length os → sameText t (nameOf (getD os k d)) ≡ false →
+    nameIn (drop k os) t ≡ nameIn (drop (k + 1) os) t
+miss os t k d h e = rw (add-one, drop-cons os k d h, e)
+
+-- a name by value holds the name's bytes up to its length
+pub spelled-name : (o : Op) → take (length (nameOf o)) (spelled (nameOf o) .bytes) ≡ nameOf o
+spelled-name = agree (λ o. take (length (nameOf o)) (spelled (nameOf o) .bytes)) nameOf refl
+
+pub name-short : (o : Op) → length (nameOf o) ≤ 5
+name-short o = leb-true (length (nameOf o)) 5 (agree (λ o. leb (length (nameOf o)) 5) (λ o. true) refl o)
+
+-- a name is read back as the operation that it was written for
+pub named-name : (o : Op) → named (nameOf o) ≡ Found o
+unfolding named
+named-name = agree (λ o. named (nameOf o)) Found refl
+
+-- whichever of two places the operation was found at, the text is its name
+picked :
+    (b : Bool) (t : List ℕ) (p o : Op) (rest : Lookup) → (b ≡ true → t ≡ nameOf p) → (rest ≡ Found o → t ≡ nameOf o) →
+    pickLookup b (Found p) rest ≡ Found o → t ≡ nameOf o
+picked true t p o rest here later e = let same : p ≡ o = cc in here refl ∙ ap nameOf same
+picked false t p o rest here later e = later e
+
+in-exact : (os : List Op) (t : List ℕ) (o : Op) → nameIn os t ≡ Found o → t ≡ nameOf o
+in-exact [] t o e = cc
+in-exact (p ∷ os) t o e =
+    picked (sameText t (nameOf p)) t p o (nameIn os t) (sameText-eq t (nameOf p)) (in-exact os t o) e
+
+-- a text that is read as an operation is its name, exactly
+pub named-exact : (t : List ℕ) (o : Op) → named t ≡ Found o → t ≡ nameOf o
+unfolding named
+named-exact t o e = in-exact ops t o e

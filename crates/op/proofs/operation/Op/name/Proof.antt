@@ -1,0 +1,44 @@
+-- Both tables hold a column of the forty, read at the operation's own byte.
+use mathlib.Core.Path.{_≡_, refl}
+use mathlib.Core.List.{map, []}
+use borrow.Author.Needs.{needs}
+use lib.ListN.{length, getD}
+use Rattle.op.specs.Operations.{ops, byteOf}
+use Rattle.op.specs.Names.{nameOf, spelled}
+use Rattle.op.proofs.Laws.{agree, byte-below}
+use Rattle.op.proofs.operation.Op.name.Statement.{statement}
+use Rattle.op.proofs.operation.Op.name.Tie as tie
+
+byte-requires : tie.Need-byte-requires
+byte-requires c κs = search needs
+
+cast-b : tie.Need-cast-b
+cast-b c = search needs
+
+mul-bytes : tie.Need-mul-bytes
+mul-bytes c = search needs
+
+array-copy-out-bytes : tie.Need-array-copy-out-bytes
+array-copy-out-bytes c = rw (c .byte .ensures) (byte-below (c .before .args .self))
+
+mul-t46 : tie.Need-mul-t46
+mul-t46 c = search needs
+
+array-read-t53 : tie.Need-array-read-t53
+array-read-t53 c = rw (c .before .byte .ensures) (byte-below (c .before .before .args .self))
+
+returns : tie.Need-returns
+returns c =
+    rw (c .before .byte .ensures)
+    (agree
+    (λ o.
+    record {
+      bytes = getD (map (λ o. spelled (nameOf o) .bytes) ops) (byteOf o) [];
+      length = getD (map (λ o. length (nameOf o)) ops) (byteOf o) 0;
+    })
+    (λ o. spelled (nameOf o)) refl (c .before .before .args .self))
+
+pub name-spec : {M : Type 1} → statement M
+name-spec =
+    tie.close
+    (tie.spec byte-requires cast-b mul-bytes array-copy-out-bytes mul-t46 array-read-t53 returns)

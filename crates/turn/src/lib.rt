@@ -1,0 +1,6 @@
+// One turn of the machine: the instruction at pc is fetched, decoded and carried out, or refused.
+
+// The forty operations at work.
+pub mod execute;
+// From pc to the effect.
+pub mod turn;

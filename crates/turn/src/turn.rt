@@ -1,0 +1,29 @@
+// One instruction at pc: fetched, decoded and carried out, or refused.
+ghost use mathlib.Core.Path.{_≡_};
+ghost use Rattle.effect.specs.Numbers.{fate};
+ghost use Rattle.turn.specs.Turn.{turnOf};
+use crate::execute::execute;
+use effect::core::Core;
+use effect::effect::Fault;
+use effect::effect::Turn;
+use op::operation::Lookup;
+use op::operation::Op;
+use std::num::wrapping_add_u8;
+
+pub fn turn(registers: &[u8; 16], memory: &[u8; 256], core: Core, input: &[u8], room: bool) -> Turn
+    ensures { λ r. ⌜ fate r ≡ turnOf (record { registers = now (registers .entry); memory = now (memory .entry); core = core; input = now (input .entry); room = room }) ⌝ }
+{
+    let pc = core.pc;
+    let opcode = memory[pc as usize];
+    let two = wrapping_add_u8(pc, 1);
+    let three = wrapping_add_u8(pc, 2);
+    let second = memory[two as usize];
+    let third = memory[three as usize];
+    match Op::decode(opcode) {
+        Lookup::Unknown => Turn::Refused(Fault::InvalidOpcode {
+            opcode: opcode,
+            pc: pc,
+        }),
+        Lookup::Found(op) => execute(op, second, third, registers, memory, core, input, room),
+    }
+}
