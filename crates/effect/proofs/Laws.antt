@@ -6,10 +6,10 @@ use Prim.Native.Nat.{ℕ}
 use lib.Dec.{eqb}
 use lib.ListN.{getD}
 use Rattle.byte.proofs.Inverse.{undone}
-use Rattle.effect.specs.declared.effect.Fault.{Fault}
-use Rattle.effect.specs.declared.effect.Fault.the-variants.{InvalidOpcode, StackFull, StackEmpty, DivisorZero, NoInput, NoRoom}
-use Rattle.effect.specs.declared.effect.Turn.{Turn}
-use Rattle.effect.specs.declared.effect.Turn.the-variants.{Done, Halt, Refused}
+use Rattle.effect.specs.declared.Fault.{Fault}
+use Rattle.effect.specs.declared.Fault.the-variants.{InvalidOpcode, StackFull, StackEmpty, DivisorZero, NoInput, NoRoom}
+use Rattle.effect.specs.declared.Turn.{Turn}
+use Rattle.effect.specs.declared.Turn.the-variants.{Done, Halt, Refused}
 use Rattle.effect.specs.Effects.{Fate, done, halt, refused}
 use Rattle.effect.specs.Numbers.{numberOf, faultNumber, fate}
 

@@ -2,15 +2,15 @@
 use Prim.Native.Nat.{ℕ, _+_, _%_}
 use mathlib.Core.List.{List, [], _∷_}
 use lib.Dec.{eqb, leb}
-use lib.ListN.{length}
+use lib.ListN.{length, getD}
 use mathlib.Core.Bool.{Bool, true, false, not}
 use Rattle.byte.specs.declared.Carried.{Carried}
 use Rattle.byte.specs.Arithmetic.{wrappedSub}
 use Rattle.byte.specs.Flags.{zn, withCarry}
 use Rattle.effect.specs.declared.core.Core.{Core}
-use Rattle.effect.specs.declared.effect.Effect.{Effect}
-use Rattle.effect.specs.declared.effect.Write.{Write}
-use Rattle.effect.specs.declared.effect.Write.the-variants.{Nothing, Register, Memory, Output}
+use Rattle.effect.specs.declared.Effect.{Effect}
+use Rattle.effect.specs.declared.Write.{Write}
+use Rattle.effect.specs.declared.Write.the-variants.{Nothing, Register, Memory, Output}
 
 -- the one or the other, by a test
 abbrev pub pick : ℕ → ℕ → Bool → ℕ
@@ -63,13 +63,23 @@ unfoldable pub pushed : Core → ℕ → ℕ → Effect
 pushed c v to =
     record { write = Memory (c .sp) v; pc = to; sp = wrappedSub (c .sp) 1; flags = c .flags; place = c .place }
 
--- "POP raises sp, then reads"
+-- "POP raises sp, then reads", "RET pops into pc"
 abbrev pub raised : Core → ℕ
 raised c = (c .sp + 1) % 256
 
--- the address that JZ or JNZ goes on at: the operand where it jumps, else the next instruction
-abbrev pub branched : Core → ℕ → Bool → Effect
-branched c a jumps = jumped c (pick a (ahead c 2) jumps)
+abbrev pub popped : Core → ℕ → ℕ → List ℕ → Effect
+popped c length r memory = loaded (atSp c (raised c)) length r (getD memory (raised c) 0)
+
+abbrev pub returned : Core → List ℕ → Effect
+returned c memory = jumped (atSp c (raised c)) (getD memory (raised c) 0)
+
+-- IN takes the byte at the input's place, and moves on
+abbrev pub taken : Core → ℕ → ℕ → List ℕ → Effect
+taken c length r input = loaded (atPlace c (c .place + 1)) length r (getD input (c .place) 0)
+
+-- JZ and JNZ: to the address where the jump is taken, else on to the next instruction
+abbrev pub branched : Core → ℕ → ℕ → Bool → Effect
+branched c length to jumps = jumped c (pick to (ahead c length) jumps)
 
 -- What comes before the effect: nothing; HLT halts in its place; or the instruction's own fault, with its number and values, where the test holds.
 pub data Before : Type 0 where

@@ -1,10 +1,10 @@
 -- "Numbers that come back": the paper's number and values of each case of the answers that this crate gives.
 use Prim.Native.Nat.{ℕ}
 use mathlib.Core.List.{List, [], _∷_}
-use Rattle.effect.specs.declared.effect.Fault.{Fault}
-use Rattle.effect.specs.declared.effect.Fault.the-variants.{InvalidOpcode, StackFull, StackEmpty, DivisorZero, NoInput, NoRoom}
-use Rattle.effect.specs.declared.effect.Turn.{Turn}
-use Rattle.effect.specs.declared.effect.Turn.the-variants.{Done, Halt, Refused}
+use Rattle.effect.specs.declared.Fault.{Fault}
+use Rattle.effect.specs.declared.Fault.the-variants.{InvalidOpcode, StackFull, StackEmpty, DivisorZero, NoInput, NoRoom}
+use Rattle.effect.specs.declared.Turn.{Turn}
+use Rattle.effect.specs.declared.Turn.the-variants.{Done, Halt, Refused}
 use Rattle.effect.specs.Effects.{Fate, done, halt, refused}
 
 -- the number alone, of a number and its values

@@ -2,11 +2,11 @@
 ghost use mathlib.Core.Path.{_≡_};
 ghost use Rattle.effect.specs.Effects.{flagged, resulted, compared, zeroDivisor, done, fateBy};
 ghost use Rattle.effect.specs.Numbers.{fate};
+use crate::Effect;
+use crate::Fault;
+use crate::Turn;
+use crate::Write;
 use crate::core::Core;
-use crate::effect::Effect;
-use crate::effect::Fault;
-use crate::effect::Turn;
-use crate::effect::Write;
 use byte::Carried;
 use byte::flags::update_carry_flag;
 use byte::flags::update_zn_flags;

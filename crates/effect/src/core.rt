@@ -1,13 +1,11 @@
 // Where the machine stands, and the plain moves from there.
 ghost use mathlib.Core.Path.{_≡_};
 ghost use lib.ListN.{getD};
-ghost use Rattle.effect.specs.Effects.{atSp, kept, loaded, jumped, branched, done};
+ghost use Rattle.effect.specs.Effects.{atSp, atPlace, kept, loaded, jumped, branched, done};
 ghost use Rattle.effect.specs.Numbers.{fate};
-use crate::effect::Effect;
-use crate::effect::Turn;
-use crate::effect::Write;
-use byte::flags::FLAG_Z;
-use byte::flags::get_flag;
+use crate::Effect;
+use crate::Turn;
+use crate::Write;
 use byte::flags::update_zn_flags;
 use std::num::wrapping_add_u8;
 
@@ -28,6 +26,17 @@ impl Core {
             sp: sp,
             flags: self.flags,
             place: self.place,
+        }
+    }
+
+    pub fn at_place(self, place: usize) -> Core
+        ensures { λ r. ⌜ r ≡ atPlace self place ⌝ }
+    {
+        Core {
+            pc: self.pc,
+            sp: self.sp,
+            flags: self.flags,
+            place: place,
         }
     }
 
@@ -78,7 +87,7 @@ impl Core {
 
     // To the address where the jump is taken, else on past the two bytes of JZ or JNZ.
     pub fn branch(self, to: u8, jumps: bool) -> Turn
-        ensures { λ r. ⌜ fate r ≡ done (branched self to jumps) ⌝ }
+        ensures { λ r. ⌜ fate r ≡ done (branched self 2 to jumps) ⌝ }
     {
         if jumps {
             self.jump(to)

@@ -1,7 +1,6 @@
-// What an instruction comes to, and the moves that the operations are made of.
+// What an instruction comes to, and the moves that the operations are made of. No instruction writes two places: each writes nothing, one
+// register, one memory byte or one output byte, and leaves pc, sp, flags and the input's place.
 
-// What it writes and where it leaves the machine, or why it may not complete.
-pub mod effect;
 // Where the machine stands, and the plain moves from there: on, by a load, by a jump.
 pub mod core;
 // Results with flags.
@@ -10,3 +9,36 @@ pub mod arithmetic;
 pub mod stack;
 // What comes in and what is printed.
 pub mod port;
+
+pub enum Write {
+    Nothing,
+    // the register, and the byte that it takes
+    Register(u8, u8),
+    // the address, and the byte that it takes
+    Memory(u8, u8),
+    Output(u8),
+}
+
+pub struct Effect {
+    pub write: Write,
+    pub pc: u8,
+    pub sp: u8,
+    pub flags: u8,
+    pub place: usize,
+}
+
+// Why an instruction may not complete.
+pub enum Fault {
+    InvalidOpcode { opcode: u8, pc: u8 },
+    StackFull(u8),
+    StackEmpty(u8),
+    DivisorZero(u8),
+    NoInput,
+    NoRoom,
+}
+
+pub enum Turn {
+    Done(Effect),
+    Halt,
+    Refused(Fault),
+}

@@ -1,13 +1,12 @@
 // The stack: PUSH and the calls write at sp and lower it, POP and RET raise sp and read there.
 ghost use mathlib.Core.Path.{_≡_};
-ghost use lib.ListN.{getD};
-ghost use Rattle.effect.specs.Effects.{ahead, atSp, raised, loaded, jumped, pushed, full, empty, fateBy};
+ghost use Rattle.effect.specs.Effects.{ahead, pushed, popped, returned, full, empty, fateBy};
 ghost use Rattle.effect.specs.Numbers.{fate};
+use crate::Effect;
+use crate::Fault;
+use crate::Turn;
+use crate::Write;
 use crate::core::Core;
-use crate::effect::Effect;
-use crate::effect::Fault;
-use crate::effect::Turn;
-use crate::effect::Write;
 use byte::arithmetic::wrapping_sub;
 use std::num::wrapping_add_u8;
 
@@ -47,7 +46,7 @@ impl Core {
     }
 
     pub fn pop(self, register: u8, memory: &[u8; 256]) -> Turn
-        ensures { λ r. ⌜ fate r ≡ fateBy (empty self) (loaded (atSp self (raised self)) 2 register (getD (now (memory .entry)) (raised self) 0)) ⌝ }
+        ensures { λ r. ⌜ fate r ≡ fateBy (empty self) (popped self 2 register (now (memory .entry))) ⌝ }
     {
         if self.sp == STACK_MAX {
             return Turn::Refused(Fault::StackEmpty(self.sp));
@@ -57,7 +56,7 @@ impl Core {
     }
 
     pub fn ret(self, memory: &[u8; 256]) -> Turn
-        ensures { λ r. ⌜ fate r ≡ fateBy (empty self) (jumped (atSp self (raised self)) (getD (now (memory .entry)) (raised self) 0)) ⌝ }
+        ensures { λ r. ⌜ fate r ≡ fateBy (empty self) (returned self (now (memory .entry))) ⌝ }
     {
         if self.sp == STACK_MAX {
             return Turn::Refused(Fault::StackEmpty(self.sp));

@@ -6,8 +6,8 @@ use Prim.Native.Nat.{ℕ}
 use lib.Dec.{eqb}
 use lib.ListN.{getD}
 use Rattle.byte.proofs.Inverse.{undone}
-use Rattle.effect.specs.declared.effect.Fault.{Fault}
-use Rattle.effect.specs.declared.effect.Fault.the-variants.{InvalidOpcode, StackFull, StackEmpty, DivisorZero, NoInput, NoRoom}
+use Rattle.effect.specs.declared.Fault.{Fault}
+use Rattle.effect.specs.declared.Fault.the-variants.{InvalidOpcode, StackFull, StackEmpty, DivisorZero, NoInput, NoRoom}
 use Rattle.effect.specs.Numbers.{numberOf, faultNumber}
 use Rattle.effect.proofs.Laws.{faultOf}
 use Rattle.nanocore.specs.declared.answer.LoadAnswer.{LoadAnswer}

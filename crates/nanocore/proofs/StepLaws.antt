@@ -5,7 +5,7 @@ use mathlib.Core.List.{List, [], _∷_}
 use Prim.Native.Nat.{ℕ, _≤_}
 use native.Mathlib.Omega.{arith}
 use lib.Dec.{eqb}
-use Rattle.effect.specs.declared.effect.Effect.{Effect}
+use Rattle.effect.specs.declared.Effect.{Effect}
 use Rattle.effect.specs.Effects.{Fate, done, halt, refused}
 use Rattle.effect.specs.Numbers.{numberOf}
 use Rattle.turn.specs.Turn.{turnOf}

@@ -6,9 +6,12 @@ use Prim.Native.Nat.{ℕ, zero, suc, _-_, _<_, _≤_}
 use native.Mathlib.Nat.{not-suc-le-zero}
 use native.Mathlib.Numerals.{sub-one}
 use borrow.Author.Tests.{eq-eqb, ne-eqb}
-use Rattle.effect.specs.declared.effect.Effect.{Effect}
-use Rattle.effect.specs.declared.effect.Fault.{Fault}
-use Rattle.effect.specs.declared.effect.Fault.the-variants.{
+use lib.ListN.{length, length-set}
+use Rattle.effect.specs.declared.Effect.{Effect}
+use Rattle.effect.specs.declared.Write.{Write}
+use Rattle.effect.specs.declared.Write.the-variants.{Nothing, Register, Memory, Output}
+use Rattle.effect.specs.declared.Fault.{Fault}
+use Rattle.effect.specs.declared.Fault.the-variants.{
   InvalidOpcode,
   StackFull,
   StackEmpty,
@@ -20,8 +23,15 @@ use Rattle.effect.specs.Effects.{Fate, done, halt, refused}
 use Rattle.effect.specs.Numbers.{faultNumber}
 use Rattle.turn.specs.Turn.{turnOf}
 use Rattle.nanocore.specs.Machine.{mostCount}
-use Rattle.nanocore.specs.Step.{Situation, Answered, viewOf, applied, haltedAt, refusedAt, settled}
+use Rattle.nanocore.specs.Step.{Situation, Answered, viewOf, registersAfter, applied, haltedAt, refusedAt, settled}
 use Rattle.nanocore.specs.Turns.{onward, then, turnsOf}
+
+-- a write leaves as many registers as there were
+pub length-registers : (w : Write) (rs : List ℕ) → length (registersAfter w rs) ≡ length rs
+length-registers Nothing rs = refl
+length-registers (Register r v) rs = length-set rs r v
+length-registers (Memory a v) rs = refl
+length-registers (Output v) rs = refl
 
 -- no fault is answered 0
 pub fault-stops : (f : Fault) → onward (faultNumber f) ≡ false

@@ -5,9 +5,9 @@ use mathlib.Core.List.{List, [], _∷_}
 use lib.Dec.{eqb, ltb}
 use lib.ListN.{length, set}
 use Rattle.effect.specs.declared.core.Core.{Core}
-use Rattle.effect.specs.declared.effect.Effect.{Effect}
-use Rattle.effect.specs.declared.effect.Write.{Write}
-use Rattle.effect.specs.declared.effect.Write.the-variants.{Nothing, Register, Memory, Output}
+use Rattle.effect.specs.declared.Effect.{Effect}
+use Rattle.effect.specs.declared.Write.{Write}
+use Rattle.effect.specs.declared.Write.the-variants.{Nothing, Register, Memory, Output}
 use Rattle.effect.specs.Effects.{Fate, done, halt, refused}
 use Rattle.turn.specs.Meaning.{View}
 use Rattle.turn.specs.Turn.{turnOf}
@@ -20,6 +20,9 @@ pub record Situation : Type 0 where
   pub place : ℕ
   pub output : List ℕ
   pub written : ℕ
+
+abbrev pub situated : Machine → ℕ → List ℕ → ℕ → Situation
+situated m place output written = record { machine = m; place = place; output = output; written = written }
 
 -- the paper's number and values, and what is left
 pub record Answered : Type 0 where
@@ -129,6 +132,3 @@ unhalted false f s = settled f s
 
 unfoldable pub stepOf : List ℕ → Situation → Answered
 stepOf input s = unhalted (s .machine .halted) (turnOf (viewOf input s)) s
-
-abbrev pub situated : Machine → ℕ → List ℕ → ℕ → Situation
-situated m place output written = record { machine = m; place = place; output = output; written = written }

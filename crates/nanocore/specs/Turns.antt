@@ -4,7 +4,11 @@ use mathlib.Core.Bool.{Bool, true, false}
 use mathlib.Core.List.{List, [], _∷_}
 use lib.Dec.{eqb}
 use Rattle.turn.specs.Turn.{turnOf}
+use Rattle.effect.specs.declared.core.Core.{Core}
+use Rattle.nanocore.specs.declared.answer.StepAnswer.{StepAnswer}
+use Rattle.nanocore.specs.declared.answer.StepOutcome.{StepOutcome}
 use Rattle.nanocore.specs.declared.machine.Machine.{Machine}
+use Rattle.nanocore.specs.declared.turns.Tally.{Tally}
 use Rattle.nanocore.specs.Step.{Situation, Answered, viewOf, settled}
 
 -- the machine, not halted
@@ -19,6 +23,26 @@ awake m =
       halted = false;
       count = m .count;
       limit = m .limit;
+    }
+
+-- the outcome that the loop's locals make
+abbrev pub endedWith : StepAnswer → List ℕ → List ℕ → Core → Bool → Tally → StepOutcome
+endedWith answer registers memory core halted tally =
+    record {
+      answer = answer;
+      machine =
+          record {
+            registers = registers;
+            memory = memory;
+            pc = core .pc;
+            sp = core .sp;
+            flags = core .flags;
+            halted = halted;
+            count = tally .count;
+            limit = tally .limit;
+          };
+      place = core .place;
+      written = tally .written;
     }
 
 -- "0: stepped": the one answer after which there is a next step

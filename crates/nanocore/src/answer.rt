@@ -1,6 +1,6 @@
 // What step, run and load answer. An enum may hold no array, so the machine stands beside the answer.
 use crate::machine::Machine;
-use effect::effect::Fault;
+use effect::Fault;
 
 pub enum StepAnswer {
     Stepped,

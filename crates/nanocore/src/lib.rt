@@ -4,8 +4,13 @@
 pub mod machine;
 // What the methods answer.
 pub mod answer;
+// Programs into memory.
 pub mod load;
+// Until halted, refused or at the limit.
 pub mod run;
+// One instruction.
 pub mod step;
+// Up to so many instructions, one after the other: what step and run are made of.
 mod turns;
+// What an effect writes.
 mod write;

@@ -2,7 +2,7 @@
 // alters; the machine record is made once, at the end.
 ghost use mathlib.Core.Path.{_≡_};
 ghost use Rattle.nanocore.specs.Step.{situated};
-ghost use Rattle.nanocore.specs.Turns.{awake, turnsOf};
+ghost use Rattle.nanocore.specs.Turns.{awake, endedWith, turnsOf};
 ghost use Rattle.nanocore.specs.Numbers.{stepping};
 use crate::answer::StepAnswer;
 use crate::answer::StepOutcome;
@@ -11,22 +11,27 @@ use crate::machine::Machine;
 use crate::write::write_memory;
 use crate::write::write_output;
 use crate::write::write_register;
+use effect::Turn;
 use effect::core::Core;
-use effect::effect::Turn;
-use turn::turn::turn;
+use turn::fetch::turn;
 
-// The answer with the machine that the parts make.
+// The numbers that the turns move beside the machine's core.
+struct Tally {
+    count: u16,
+    limit: u16,
+    written: usize,
+}
+
+// The answer, with the machine that the parts make.
 fn ended(
     answer: StepAnswer,
     registers: [u8; 16],
     memory: [u8; 256],
     core: Core,
     halted: bool,
-    count: u16,
-    limit: u16,
-    written: usize,
+    tally: Tally,
 ) -> StepOutcome
-    ensures { λ r. ⌜ r ≡ record { answer = answer; machine = record { registers = registers; memory = memory; pc = core .pc; sp = core .sp; flags = core .flags; halted = halted; count = count; limit = limit }; place = core .place; written = written } ⌝ }
+    ensures { λ r. ⌜ r ≡ endedWith answer registers memory core halted tally ⌝ }
 {
     StepOutcome {
         answer: answer,
@@ -37,11 +42,11 @@ fn ended(
             sp: core.sp,
             flags: core.flags,
             halted: halted,
-            count: count,
-            limit: limit,
+            count: tally.count,
+            limit: tally.limit,
         },
         place: core.place,
-        written: written,
+        written: tally.written,
     }
 }
 
@@ -64,12 +69,15 @@ pub fn turns(
         flags: machine.flags,
         place: place,
     };
-    let mut count = machine.count;
-    let limit = machine.limit;
-    let mut number = written;
+    let mut tally = Tally {
+        count: machine.count,
+        limit: machine.limit,
+        written: written,
+    };
     let mut left = most;
     while 0 < left {
-        match turn(&registers, &memory, core, input, number < output.len()) {
+        let room = tally.written < output.len();
+        match turn(&registers, &memory, core, input, room) {
             Turn::Refused(fault) => {
                 return ended(
                     StepAnswer::Refused(fault),
@@ -77,59 +85,30 @@ pub fn turns(
                     memory,
                     core,
                     false,
-                    count,
-                    limit,
-                    number,
+                    tally,
                 );
             }
             Turn::Halt => {
-                return ended(
-                    StepAnswer::Halted,
-                    registers,
-                    memory,
-                    core,
-                    true,
-                    count,
-                    limit,
-                    number,
-                );
+                return ended(StepAnswer::Halted, registers, memory, core, true, tally);
             }
             Turn::Done(effect) => {
-                if count == MAX_COUNT {
-                    return ended(
-                        StepAnswer::CountFull,
-                        registers,
-                        memory,
-                        core,
-                        false,
-                        count,
-                        limit,
-                        number,
-                    );
+                if tally.count == MAX_COUNT {
+                    return ended(StepAnswer::CountFull, registers, memory, core, false, tally);
                 }
                 let write = effect.write;
-                registers = write_register(write, registers);
+                write_register(write, &mut registers);
                 write_memory(write, &mut memory);
-                number = write_output(write, &mut *output, number);
+                tally.written = write_output(write, &mut *output, tally.written);
+                tally.count += 1;
                 core = Core {
                     pc: effect.pc,
                     sp: effect.sp,
                     flags: effect.flags,
                     place: effect.place,
                 };
-                count += 1;
                 left -= 1;
             }
         }
     }
-    ended(
-        StepAnswer::Stepped,
-        registers,
-        memory,
-        core,
-        false,
-        count,
-        limit,
-        number,
-    )
+    ended(StepAnswer::Stepped, registers, memory, core, false, tally)
 }

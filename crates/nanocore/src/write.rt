@@ -5,29 +5,27 @@ ghost use Prim.Native.Nat.{_<_};
 ghost use lib.ListN.{length};
 ghost use Rattle.effect.specs.Effects.{prints};
 ghost use Rattle.nanocore.specs.Step.{registersAfter, memoryAfter, outputAfter, writtenAfter};
-use effect::effect::Write;
+use effect::Write;
 
-// The sixteen registers go by value: so their number is known, and a register above 15 is none.
-pub fn write_register(write: Write, registers: [u8; 16]) -> [u8; 16]
-    ensures { λ r. ⌜ r ≡ registersAfter write registers ⌝ }
+// A register above 15 is none: no instruction names one.
+pub fn write_register(write: Write, registers: &mut [u8; 16])
+    requires { ⌜ length (now registers) ≡ 16 ⌝ }
+    ensures { λ _. ⌜ now (registers .exit) ≡ registersAfter write (now (registers .entry)) ⌝ }
 {
     match write {
-        Write::Nothing => registers,
+        Write::Nothing => {}
         Write::Register(r, v) => {
-            if 15 < r {
-                return registers;
+            if r < 16 {
+                registers[r as usize] = v;
             }
-            let mut next = registers;
-            next[r as usize] = v;
-            next
         }
-        Write::Memory(_, _) => registers,
-        Write::Output(_) => registers,
+        Write::Memory(_, _) => {}
+        Write::Output(_) => {}
     }
 }
 
 pub fn write_memory(write: Write, memory: &mut [u8; 256])
-    ensures { λ r. ⌜ now (memory .exit) ≡ memoryAfter write (now (memory .entry)) ⌝ }
+    ensures { λ _. ⌜ now (memory .exit) ≡ memoryAfter write (now (memory .entry)) ⌝ }
 {
     match write {
         Write::Nothing => {}

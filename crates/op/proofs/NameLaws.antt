@@ -1,7 +1,7 @@
 -- Laws of the names that the crates above cite: a name written is read back as its operation, and a text that is read as an
 -- operation is that operation's name, byte for byte.
 use mathlib.Core.Path.{_≡_, refl, sym, _∙_, ap}
-use mathlib.Core.Bool.{Bool, true, false}
+use mathlib.Core.Bool.{Bool, true, false, cond, _&&_, and-eq-true-iff}
 use mathlib.Core.List.{List, [], _∷_}
 use Prim.Native.Nat.{ℕ, _+_, _≤_, _<_}
 use native.Mathlib.Numerals.{add-one}
@@ -13,16 +13,8 @@ use Rattle.op.specs.declared.operation.Op.{Op}
 use Rattle.op.specs.declared.operation.Lookup.{Lookup}
 use Rattle.op.specs.declared.operation.Lookup.the-variants.{Found}
 use Rattle.op.specs.Operations.{ops}
-use Rattle.op.specs.Names.{nameOf, spelled, sameText, also, pickLookup, nameIn, named}
+use Rattle.op.specs.Names.{nameOf, spelled, sameText, nameIn, named}
 use Rattle.op.proofs.Laws.{agree}
-
-also-left : (a b : Bool) → also a b ≡ true → a ≡ true
-also-left true b e = refl
-also-left false b e = e
-
-also-right : (a b : Bool) → also a b ≡ true → b ≡ true
-also-right true b e = e
-also-right false b e = cc
 
 pub sameText-refl : (s : List ℕ) → sameText s s ≡ true
 sameText-refl [] = refl
@@ -33,7 +25,8 @@ sameText-eq [] [] e = refl
 sameText-eq [] (b ∷ t) e = cc
 sameText-eq (a ∷ s) [] e = cc
 sameText-eq (a ∷ s) (b ∷ t) e =
-    cc (eqb-true a b (also-left (eqb a b) (sameText s t) e), sameText-eq s t (also-right (eqb a b) (sameText s t) e))
+    let parts = and-eq-true-iff (eqb a b) (sameText s t) .0 e in
+    cc (eqb-true a b (parts .0), sameText-eq s t (parts .1))
 
 -- two tests that imply each other are one
 both-ways : (a b : Bool) → (a ≡ true → b ≡ true) → (b ≡ true → a ≡ true) → a ≡ b
@@ -72,7 +65,7 @@ named-name = agree (λ o. named (nameOf o)) Found refl
 -- whichever of two places the operation was found at, the text is its name
 picked :
     (b : Bool) (t : List ℕ) (p o : Op) (rest : Lookup) → (b ≡ true → t ≡ nameOf p) → (rest ≡ Found o → t ≡ nameOf o) →
-    pickLookup b (Found p) rest ≡ Found o → t ≡ nameOf o
+    cond b (Found p) rest ≡ Found o → t ≡ nameOf o
 picked true t p o rest here later e = let same : p ≡ o = cc in here refl ∙ ap nameOf same
 picked false t p o rest here later e = later e
 

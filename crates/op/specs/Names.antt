@@ -2,7 +2,7 @@
 use Prim.Native.Nat.{ℕ, zero, suc}
 use Prim.Native.Char.{code}
 use Prim.Native.String.{String}
-use mathlib.Core.Bool.{Bool, true, false}
+use mathlib.Core.Bool.{Bool, true, false, cond, _&&_}
 use mathlib.Core.List.{List, [], _∷_}
 use lib.Dec.{eqb}
 use lib.ListN.{length, getD}
@@ -25,25 +25,17 @@ abbrev pub spelled : List ℕ → Name
 spelled n =
     record { bytes = getD n 0 0 ∷ getD n 1 0 ∷ getD n 2 0 ∷ getD n 3 0 ∷ getD n 4 0 ∷ []; length = length n }
 
-abbrev pub also : Bool → Bool → Bool
-also true b = b
-also false b = false
-
-abbrev pub pickLookup : Bool → Lookup → Lookup → Lookup
-pickLookup true a b = a
-pickLookup false a b = b
-
 -- byte for byte the same
 abbrev pub sameText : List ℕ → List ℕ → Bool
 sameText [] [] = true
 sameText [] (b ∷ t) = false
 sameText (a ∷ s) [] = false
-sameText (a ∷ s) (b ∷ t) = also (eqb a b) (sameText s t)
+sameText (a ∷ s) (b ∷ t) = eqb a b && sameText s t
 
 -- the operation of the list that has this name, or none
 abbrev pub nameIn : List Op → List ℕ → Lookup
 nameIn [] text = Unknown
-nameIn (o ∷ os) text = pickLookup (sameText text (nameOf o)) (Found o) (nameIn os text)
+nameIn (o ∷ os) text = cond (sameText text (nameOf o)) (Found o) (nameIn os text)
 
 unfoldable pub named : List ℕ → Lookup
 named text = nameIn ops text

@@ -3,50 +3,7 @@ use Prim.Native.Nat.{ℕ, zero, suc}
 use Prim.Native.String.{String}
 use mathlib.Core.List.{List, [], _∷_}
 use Rattle.op.specs.declared.form.Form.{Form}
-use Rattle.op.specs.declared.form.Form.the-variants.{None, Reg, RegImm, RegReg, RegAddr, Addr}
 use Rattle.op.specs.declared.operation.Op.{Op}
-use Rattle.op.specs.declared.operation.Op.the-variants.{
-  HLT,
-  NOP,
-  LDI,
-  LDA,
-  LDR,
-  MOV,
-  STORE,
-  PUSH,
-  POP,
-  ADD,
-  ADDI,
-  SUB,
-  SUBI,
-  INC,
-  DEC,
-  AND,
-  OR,
-  XOR,
-  NOT,
-  CMP,
-  SHL,
-  SHR,
-  JMP,
-  JZ,
-  JNZ,
-  PRINT,
-  MUL,
-  MULI,
-  DIV,
-  DIVI,
-  MOD,
-  MODI,
-  CALL,
-  RET,
-  ROL,
-  ROR,
-  IN,
-  JMPR,
-  CALLR,
-  STR,
-}
 use Rattle.op.specs.declared.operation.Lookup.{Lookup}
 use Rattle.op.specs.declared.operation.Lookup.the-variants.{Found, Unknown}
 
@@ -60,46 +17,46 @@ row b n f = record { byte = b; name = n; form = f }
 
 -- "Bytes 0x00..0x27, in order", and the table of operands
 abbrev pub rowOf : Op → Row
-rowOf HLT = row 0x00 "HLT" None
-rowOf NOP = row 0x01 "NOP" None
-rowOf LDI = row 0x02 "LDI" RegImm
-rowOf LDA = row 0x03 "LDA" RegAddr
-rowOf LDR = row 0x04 "LDR" RegReg
-rowOf MOV = row 0x05 "MOV" RegReg
-rowOf STORE = row 0x06 "STORE" RegAddr
-rowOf PUSH = row 0x07 "PUSH" Reg
-rowOf POP = row 0x08 "POP" Reg
-rowOf ADD = row 0x09 "ADD" RegReg
-rowOf ADDI = row 0x0a "ADDI" RegImm
-rowOf SUB = row 0x0b "SUB" RegReg
-rowOf SUBI = row 0x0c "SUBI" RegImm
-rowOf INC = row 0x0d "INC" Reg
-rowOf DEC = row 0x0e "DEC" Reg
-rowOf AND = row 0x0f "AND" RegReg
-rowOf OR = row 0x10 "OR" RegReg
-rowOf XOR = row 0x11 "XOR" RegReg
-rowOf NOT = row 0x12 "NOT" Reg
-rowOf CMP = row 0x13 "CMP" RegReg
-rowOf SHL = row 0x14 "SHL" Reg
-rowOf SHR = row 0x15 "SHR" Reg
-rowOf JMP = row 0x16 "JMP" Addr
-rowOf JZ = row 0x17 "JZ" Addr
-rowOf JNZ = row 0x18 "JNZ" Addr
-rowOf PRINT = row 0x19 "PRINT" Reg
-rowOf MUL = row 0x1a "MUL" RegReg
-rowOf MULI = row 0x1b "MULI" RegImm
-rowOf DIV = row 0x1c "DIV" RegReg
-rowOf DIVI = row 0x1d "DIVI" RegImm
-rowOf MOD = row 0x1e "MOD" RegReg
-rowOf MODI = row 0x1f "MODI" RegImm
-rowOf CALL = row 0x20 "CALL" Addr
-rowOf RET = row 0x21 "RET" None
-rowOf ROL = row 0x22 "ROL" Reg
-rowOf ROR = row 0x23 "ROR" Reg
-rowOf IN = row 0x24 "IN" Reg
-rowOf JMPR = row 0x25 "JMPR" Reg
-rowOf CALLR = row 0x26 "CALLR" Reg
-rowOf STR = row 0x27 "STR" RegReg
+rowOf Op.HLT = row 0x00 "HLT" Form.None
+rowOf Op.NOP = row 0x01 "NOP" Form.None
+rowOf Op.LDI = row 0x02 "LDI" Form.RegImm
+rowOf Op.LDA = row 0x03 "LDA" Form.RegAddr
+rowOf Op.LDR = row 0x04 "LDR" Form.RegReg
+rowOf Op.MOV = row 0x05 "MOV" Form.RegReg
+rowOf Op.STORE = row 0x06 "STORE" Form.RegAddr
+rowOf Op.PUSH = row 0x07 "PUSH" Form.Reg
+rowOf Op.POP = row 0x08 "POP" Form.Reg
+rowOf Op.ADD = row 0x09 "ADD" Form.RegReg
+rowOf Op.ADDI = row 0x0a "ADDI" Form.RegImm
+rowOf Op.SUB = row 0x0b "SUB" Form.RegReg
+rowOf Op.SUBI = row 0x0c "SUBI" Form.RegImm
+rowOf Op.INC = row 0x0d "INC" Form.Reg
+rowOf Op.DEC = row 0x0e "DEC" Form.Reg
+rowOf Op.AND = row 0x0f "AND" Form.RegReg
+rowOf Op.OR = row 0x10 "OR" Form.RegReg
+rowOf Op.XOR = row 0x11 "XOR" Form.RegReg
+rowOf Op.NOT = row 0x12 "NOT" Form.Reg
+rowOf Op.CMP = row 0x13 "CMP" Form.RegReg
+rowOf Op.SHL = row 0x14 "SHL" Form.Reg
+rowOf Op.SHR = row 0x15 "SHR" Form.Reg
+rowOf Op.JMP = row 0x16 "JMP" Form.Addr
+rowOf Op.JZ = row 0x17 "JZ" Form.Addr
+rowOf Op.JNZ = row 0x18 "JNZ" Form.Addr
+rowOf Op.PRINT = row 0x19 "PRINT" Form.Reg
+rowOf Op.MUL = row 0x1a "MUL" Form.RegReg
+rowOf Op.MULI = row 0x1b "MULI" Form.RegImm
+rowOf Op.DIV = row 0x1c "DIV" Form.RegReg
+rowOf Op.DIVI = row 0x1d "DIVI" Form.RegImm
+rowOf Op.MOD = row 0x1e "MOD" Form.RegReg
+rowOf Op.MODI = row 0x1f "MODI" Form.RegImm
+rowOf Op.CALL = row 0x20 "CALL" Form.Addr
+rowOf Op.RET = row 0x21 "RET" Form.None
+rowOf Op.ROL = row 0x22 "ROL" Form.Reg
+rowOf Op.ROR = row 0x23 "ROR" Form.Reg
+rowOf Op.IN = row 0x24 "IN" Form.Reg
+rowOf Op.JMPR = row 0x25 "JMPR" Form.Reg
+rowOf Op.CALLR = row 0x26 "CALLR" Form.Reg
+rowOf Op.STR = row 0x27 "STR" Form.RegReg
 
 abbrev pub byteOf : Op → ℕ
 byteOf o = rowOf o .byte
@@ -109,21 +66,21 @@ formOf o = rowOf o .form
 
 -- the table's column "Length"
 abbrev pub lengthOf : Form → ℕ
-lengthOf None = 1
-lengthOf RegImm = 3
-lengthOf RegAddr = 3
-lengthOf Reg = 2
-lengthOf RegReg = 2
-lengthOf Addr = 2
+lengthOf Form.None = 1
+lengthOf Form.RegImm = 3
+lengthOf Form.RegAddr = 3
+lengthOf Form.Reg = 2
+lengthOf Form.RegReg = 2
+lengthOf Form.Addr = 2
 
 -- "rows of eight: 0x00, 0x08, 0x10, 0x18, 0x20"
 abbrev pub ops : List Op
 ops =
-    HLT ∷ NOP ∷ LDI ∷ LDA ∷ LDR ∷ MOV ∷ STORE ∷ PUSH ∷
-    POP ∷ ADD ∷ ADDI ∷ SUB ∷ SUBI ∷ INC ∷ DEC ∷ AND ∷
-    OR ∷ XOR ∷ NOT ∷ CMP ∷ SHL ∷ SHR ∷ JMP ∷ JZ ∷
-    JNZ ∷ PRINT ∷ MUL ∷ MULI ∷ DIV ∷ DIVI ∷ MOD ∷ MODI ∷
-    CALL ∷ RET ∷ ROL ∷ ROR ∷ IN ∷ JMPR ∷ CALLR ∷ STR ∷
+    Op.HLT ∷ Op.NOP ∷ Op.LDI ∷ Op.LDA ∷ Op.LDR ∷ Op.MOV ∷ Op.STORE ∷ Op.PUSH ∷
+    Op.POP ∷ Op.ADD ∷ Op.ADDI ∷ Op.SUB ∷ Op.SUBI ∷ Op.INC ∷ Op.DEC ∷ Op.AND ∷
+    Op.OR ∷ Op.XOR ∷ Op.NOT ∷ Op.CMP ∷ Op.SHL ∷ Op.SHR ∷ Op.JMP ∷ Op.JZ ∷
+    Op.JNZ ∷ Op.PRINT ∷ Op.MUL ∷ Op.MULI ∷ Op.DIV ∷ Op.DIVI ∷ Op.MOD ∷ Op.MODI ∷
+    Op.CALL ∷ Op.RET ∷ Op.ROL ∷ Op.ROR ∷ Op.IN ∷ Op.JMPR ∷ Op.CALLR ∷ Op.STR ∷
     []
 
 -- "0x28..0xFF are invalid"

@@ -8,7 +8,7 @@ use lib.ListN.{getD}
 use lib.Dec.{T, eqb, leb, leb→le}
 use borrow.Author.Tests.{eqb-true}
 use Rattle.byte.proofs.Below.{both}
-use Rattle.effect.specs.declared.effect.Effect.{Effect}
+use Rattle.effect.specs.declared.Effect.{Effect}
 use Rattle.byte.specs.Flags.{zn, withCarry}
 use Rattle.effect.specs.Numbers.{numberOf}
 use Rattle.effect.specs.Effects.{

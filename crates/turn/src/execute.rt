@@ -1,7 +1,7 @@
 // The forty operations at work, from the bytes behind the opcode: what each does, or its own fault.
 ghost use mathlib.Core.Path.{_≡_};
 ghost use Rattle.op.specs.Operations.{formOf};
-ghost use Rattle.turn.specs.Meaning.{fateOf};
+ghost use Rattle.turn.specs.Meaning.{seen, fateOf};
 ghost use Rattle.effect.specs.Numbers.{fate};
 ghost use Rattle.instruction.specs.Operands.{operandsOf};
 use byte::arithmetic::overflowing_add;
@@ -16,9 +16,9 @@ use byte::shift::rotate_left;
 use byte::shift::rotate_right;
 use byte::shift::shift_left;
 use byte::shift::shift_right;
+use effect::Turn;
+use effect::Write;
 use effect::core::Core;
-use effect::effect::Turn;
-use effect::effect::Write;
 use op::operation::Op;
 use std::num::wrapping_add_u8;
 
@@ -33,7 +33,7 @@ pub fn execute(
     input: &[u8],
     room: bool,
 ) -> Turn
-    ensures { λ r. ⌜ fate r ≡ fateOf op (operandsOf (formOf op) second third) (record { registers = now (registers .entry); memory = now (memory .entry); core = core; input = now (input .entry); room = room }) ⌝ }
+    ensures { λ r. ⌜ fate r ≡ fateOf op (operandsOf (formOf op) second third) (seen (now (registers .entry)) (now (memory .entry)) core (now (input .entry)) room) ⌝ }
 {
     let d = second / 16;
     let s = second % 16;

@@ -2,5 +2,5 @@
 
 // The forty operations at work.
 pub mod execute;
-// From pc to the effect.
-pub mod turn;
+// From pc to the operation and its bytes.
+pub mod fetch;

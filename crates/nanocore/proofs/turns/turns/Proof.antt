@@ -2,22 +2,23 @@
 use mathlib.Core.Path.{_≡_, refl, sym, _∙_, ap}
 use mathlib.Core.Bool.{false}
 use mathlib.Core.List.{List}
-use Prim.Native.Nat.{ℕ, _≤_}
+use Prim.Native.Nat.{ℕ}
 use borrow.Author.Needs.{needs}
 use borrow.Author.Tests.{ltb-true}
 use lib.ListN.{length}
 use Rattle.effect.specs.declared.core.Core.{Core}
 use Rattle.effect.specs.Numbers.{fate}
 use Rattle.turn.proofs.Laws.{prints-room}
+use Rattle.nanocore.specs.declared.turns.Tally.{Tally}
 use Rattle.nanocore.specs.Step.{Situation}
 use Rattle.nanocore.specs.Turns.{turnsOf}
-use Rattle.nanocore.proofs.TurnLaws.{fault-stops, turns-none, turns-refused, turns-halted, turns-full, turns-done}
+use Rattle.nanocore.proofs.TurnLaws.{length-registers, fault-stops, turns-none, turns-refused, turns-halted, turns-full, turns-done}
 use Rattle.nanocore.proofs.turns.turns.Statement.{statement}
 use Rattle.nanocore.proofs.turns.turns.Tie as tie
 
 -- the situation that the locals make
-abbrev here : List ℕ → List ℕ → Core → ℕ → ℕ → List ℕ → ℕ → Situation
-here registers memory core count limit output number =
+abbrev here : List ℕ → List ℕ → Core → Tally → List ℕ → Situation
+here registers memory core tally output =
     record {
       machine =
           record {
@@ -27,24 +28,22 @@ here registers memory core count limit output number =
             sp = core .sp;
             flags = core .flags;
             halted = false;
-            count = count;
-            limit = limit;
+            count = tally .count;
+            limit = tally .limit;
           };
       place = core .place;
       output = output;
-      written = number;
+      written = tally .written;
     }
 
 abbrev Inv-loop : tie.InvT-loop
-Inv-loop most input place output₀ written registers₀ memory₀ core₀ count₀ limit number₀ left₀ output registers memory core count number left =
+Inv-loop most input place output₀ written registers₀ memory₀ core₀ tally₀ left₀ output registers memory core tally left =
     (length output ≡ length output₀)
-    × (count ≤ 65535)
-    × (turnsOf left input (here registers memory core count limit output number)
-    ≡ turnsOf left₀ input (here registers₀ memory₀ core₀ count₀ limit output₀ number₀))
+    × (length registers ≡ 16)
+    × (turnsOf left input (here registers memory core tally output) ≡ turnsOf left₀ input (here registers₀ memory₀ core₀ tally₀ output₀))
 
 abbrev μ-loop : tie.MeasureT-loop
-μ-loop most input place output₀ written registers₀ memory₀ core₀ count₀ limit number₀ left₀ output registers memory core count number left =
-    left
+μ-loop most input place output₀ written registers₀ memory₀ core₀ tally₀ left₀ output registers memory core tally left = left
 
 loop-holds : tie.Need-loop-holds Inv-loop μ-loop
 loop-holds c = (refl, search needs, refl)
@@ -64,9 +63,11 @@ same-length c = search needs
 returns : tie.Need-returns Inv-loop μ-loop
 returns c =
     let f = c .before .before .fault .given in
-    let now = sym (c .before .before .before .before .turn .ensures) ∙ ap fate (f .1) in
+    let turned = c .before .before .before .before in
+    let looped = turned .before .before .before .before in
     rw (c .ended .ensures)
-    (sym (turns-refused _ _ _ (c .before .before .before .before .before .before .before .loop-test .taken) _ now (fault-stops (f .0 .0))) ∙ c .before .before .before .before .before .before .before .before .loop .inv .2)
+    (sym (turns-refused _ _ _ (looped .loop-test .taken) _ (sym (turned .turn .ensures) ∙ ap fate (f .1)) (fault-stops (f .0 .0)))
+    ∙ looped .before .loop .inv .2)
 
 enum-told : tie.Need-enum-told Inv-loop μ-loop
 enum-told c = search needs
@@ -79,8 +80,11 @@ same-length-2 c = search needs
 
 returns-2 : tie.Need-returns-2 Inv-loop μ-loop
 returns-2 c =
+    let turned = c .before .before .before in
+    let looped = turned .before .before .before .before in
     rw (c .ended2 .ensures)
-    (sym (turns-halted _ _ _ (c .before .before .before .before .before .before .loop-test .taken) (sym (c .before .before .before .turn .ensures) ∙ ap fate (c .before .enum-told .given .1))) ∙ c .before .before .before .before .before .before .before .loop .inv .2)
+    (sym (turns-halted _ _ _ (looped .loop-test .taken) (sym (turned .turn .ensures) ∙ ap fate (c .before .enum-told .given .1)))
+    ∙ looped .before .loop .inv .2)
 
 enum-known-effect : tie.Need-enum-known-effect Inv-loop μ-loop
 enum-known-effect c = search needs
@@ -93,21 +97,24 @@ same-length-3 c = search needs
 
 returns-3 : tie.Need-returns-3 Inv-loop μ-loop
 returns-3 c =
+    let turned = c .before .before .before .before .before .before in
+    let looped = turned .before .before .before .before in
     rw (c .ended3 .ensures)
-    (sym (turns-full _ _ _ (c .before .before .before .before .before .before .before .before .loop-test .taken) _ (sym (c .before .before .before .before .before .turn .ensures) ∙ ap fate (c .before .before .before .effect .given .1)) (c .before .if1 .taken)) ∙ c .before .before .before .before .before .before .before .before .before .loop .inv .2)
+    (sym (turns-full _ _ _ (looped .loop-test .taken) _ (sym (turned .turn .ensures) ∙ ap fate (c .before .before .before .before .effect .given .1)) (c .before .if1 .taken))
+    ∙ looped .before .loop .inv .2)
 
 write-register-requires : tie.Need-write-register-requires Inv-loop μ-loop
-write-register-requires c κs = search needs
+write-register-requires c κs = c .before .before .before .before .before .before .before .before .before .before .before .loop .inv .1
 
 write-memory-requires : tie.Need-write-memory-requires Inv-loop μ-loop
 write-memory-requires c κs = search needs
 
 write-output-requires : tie.Need-write-output-requires Inv-loop μ-loop
-write-output-requires c κs =
-    λ p. ltb-true _ _ (prints-room _ _ (sym (c .before .before .before .before .before .before .before .before .turn .ensures) ∙ ap fate (c .before .before .before .before .before .before .effect .given .1)) p)
+write-output-requires c κs = λ p.
+    ltb-true _ _ (prints-room _ _ (sym (c .before .before .before .before .before .before .before .before .before .before .turn .ensures) ∙ ap fate (c .before .before .before .before .before .before .before .before .effect .given .1)) p)
 
-add-count : tie.Need-add-count Inv-loop μ-loop
-add-count c = search needs
+add-tally : tie.Need-add-tally Inv-loop μ-loop
+add-tally c = search needs
 
 sub-left : tie.Need-sub-left Inv-loop μ-loop
 sub-left c = search needs
@@ -117,11 +124,18 @@ loop-less c = search needs
 
 loop-again : tie.Need-loop-again Inv-loop μ-loop
 loop-again c =
-    let l = c .before .before .before .before .before .before .before .before .before .before .before .before .before .before .before .loop in (
+    let printed = c .before .before .before in
+    let written = printed .before .before in
+    let registered = written .before .before in
+    let counted = registered .before .before in
+    let done = counted .before .before .before in
+    let turned = done .before .before in
+    let looped = turned .before .before .before .before in (
       search needs,
-      search needs,
-      rw (c .before .before .before .before .before .before .write-register .ensures, c .before .before .before .before .write-memory .ensures, c .before .before .write-output .ensures .0, c .before .before .write-output .ensures .1)
-          (sym (turns-done _ _ _ (c .before .before .before .before .before .before .before .before .before .before .before .before .before .before .loop-test .taken) _ (sym (c .before .before .before .before .before .before .before .before .before .before .before .turn .ensures) ∙ ap fate (c .before .before .before .before .before .before .before .before .before .effect .given .1)) (c .before .before .before .before .before .before .before .if1 .left)) ∙ l .inv .2),
+      rw (registered .write-register .ensures) (length-registers (done .effect .given .0 .0 .write) (looped .before .loop .registers) ∙ looped .before .loop .inv .1),
+      rw (registered .write-register .ensures, written .write-memory .ensures, printed .write-output .ensures .0, printed .write-output .ensures .1)
+          (sym (turns-done _ _ _ (looped .loop-test .taken) _ (sym (turned .turn .ensures) ∙ ap fate (done .effect .given .1)) (counted .if1 .left))
+          ∙ looped .before .loop .inv .2),
     )
 
 ended-requires-4 : tie.Need-ended-requires-4 Inv-loop μ-loop
@@ -157,7 +171,7 @@ turns-spec =
     write-register-requires
     write-memory-requires
     write-output-requires
-    add-count
+    add-tally
     sub-left
     loop-less
     loop-again

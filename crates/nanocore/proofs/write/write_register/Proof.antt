@@ -1,4 +1,4 @@
--- The write is told at each arm. A register above 15 is none, and the list is as long as the array.
+-- The write is told at each arm. A register above 15 is none of the sixteen.
 use mathlib.Core.Path.{sym}
 use lib.Seq.{set-out}
 use native.Mathlib.Omega.{arith}
@@ -12,14 +12,11 @@ enum-told c = search needs
 enum-known-write : tie.Need-enum-known-write
 enum-known-write c = search needs
 
-returns : tie.Need-returns
-returns c = rw (c .before .before .write .given .1) (sym (set-out _ _ _ (omega arith)))
+cast-registers : tie.Need-cast-registers
+cast-registers c = search needs
 
-cast-next : tie.Need-cast-next
-cast-next c = search needs
-
-array-write-next : tie.Need-array-write-next
-array-write-next c = search needs
+element-write-registers : tie.Need-element-write-registers
+element-write-registers c = search needs
 
 enum-told-2 : tie.Need-enum-told-2
 enum-told-2 c = search needs
@@ -27,11 +24,14 @@ enum-told-2 c = search needs
 enum-told-3 : tie.Need-enum-told-3
 enum-told-3 c = search needs
 
+returns : tie.Need-returns
+returns c = search needs
+
 returns-2 : tie.Need-returns-2
-returns-2 c = search needs
+returns-2 c = rw (c .before .before .write .given .1)
 
 returns-3 : tie.Need-returns-3
-returns-3 c = rw (c .before .before .write .given .1)
+returns-3 c = rw (c .before .before .write .given .1) (sym (set-out _ _ _ (omega (arith, c .before .before .before .before .pre))))
 
 returns-4 : tie.Need-returns-4
 returns-4 c = search needs
@@ -45,11 +45,11 @@ write-register-spec =
     (tie.spec
     enum-told
     enum-known-write
-    returns
-    cast-next
-    array-write-next
+    cast-registers
+    element-write-registers
     enum-told-2
     enum-told-3
+    returns
     returns-2
     returns-3
     returns-4

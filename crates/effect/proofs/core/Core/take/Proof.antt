@@ -1,4 +1,5 @@
 -- The test is the definition's.
+use mathlib.Core.Path.{_∙_}
 use borrow.Author.Tests.{le-leb, lt-leb}
 use borrow.Author.Needs.{needs}
 use Rattle.effect.proofs.core.Core.take.Statement.{statement}
@@ -7,8 +8,11 @@ use Rattle.effect.proofs.core.Core.take.Tie as tie
 returns : tie.Need-returns
 returns c = rw (le-leb _ _ (c .if1 .taken))
 
-add-t6 : tie.Need-add-t6
-add-t6 c = search needs
+add-at-place : tie.Need-add-at-place
+add-at-place c = search needs
+
+at-place-requires : tie.Need-at-place-requires
+at-place-requires c κs = search needs
 
 shared-slice-read-load : tie.Need-shared-slice-read-load
 shared-slice-read-load c = search needs
@@ -17,7 +21,15 @@ load-requires : tie.Need-load-requires
 load-requires c κs = search needs
 
 returns-2 : tie.Need-returns-2
-returns-2 c = rw (lt-leb _ _ (c .before .before .if1 .left)) (c .load .ensures)
+returns-2 c = rw (lt-leb _ _ (c .before .before .before .if1 .left)) (c .load .ensures ∙ rw (c .before .before .at-place .ensures))
 
 pub take-spec : {M : Type 1} → statement M
-take-spec = tie.close (tie.spec returns add-t6 shared-slice-read-load load-requires returns-2)
+take-spec =
+    tie.close
+    (tie.spec
+    returns
+    add-at-place
+    at-place-requires
+    shared-slice-read-load
+    load-requires
+    returns-2)

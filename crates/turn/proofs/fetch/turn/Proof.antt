@@ -3,8 +3,8 @@ use mathlib.Core.Path.{sym, _∙_}
 use Rattle.instruction.specs.Decode.{decodedOf}
 use Rattle.turn.specs.Turn.{turnOf}
 use borrow.Author.Needs.{needs}
-use Rattle.turn.proofs.turn.turn.Statement.{statement}
-use Rattle.turn.proofs.turn.turn.Tie as tie
+use Rattle.turn.proofs.fetch.turn.Statement.{statement}
+use Rattle.turn.proofs.fetch.turn.Tie as tie
 
 cast-opcode : tie.Need-cast-opcode
 cast-opcode c = search needs
