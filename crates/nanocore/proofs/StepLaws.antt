@@ -5,13 +5,15 @@ use mathlib.Core.List.{List, [], _∷_}
 use Prim.Native.Nat.{ℕ, _≤_}
 use native.Mathlib.Omega.{arith}
 use lib.Dec.{eqb}
+use Rattle.byte.specs.Flags.{C, setFlag, clearFlag, zn, withCarry}
 use Rattle.effect.specs.declared.Effect.{Effect}
 use Rattle.effect.specs.Effects.{Fate, done, halt, refused}
 use Rattle.effect.specs.Numbers.{numberOf}
 use Rattle.turn.specs.Turn.{turnOf}
 use Rattle.turn.proofs.Laws.{Moved, executed, flags-moved}
 use Rattle.instruction.specs.Operands.{firstOf, secondOf}
-use Rattle.nanocore.specs.Machine.{mostCount}
+use Rattle.nanocore.specs.declared.machine.Machine.{Machine}
+use Rattle.nanocore.specs.Machine.{withFlags, mostCount}
 use Rattle.nanocore.specs.Step.{Situation, Answered, viewOf, counted, settled, unhalted, stepOf}
 use Rattle.nanocore.proofs.RunLaws.{Went, goes, stops, went, step-awake}
 
@@ -33,11 +35,34 @@ pub refused-same : (input : List ℕ) (s : Situation) → 2 ≤ numberOf (stepOf
 unfolding stepOf
 refused-same input s h = unhalted-same (s .machine .halted) (turnOf (viewOf input s)) s h
 
--- the flags that a step leaves are those before it, or what update_zn_flags makes of them, or that with C put by set_flag or clear_flag
+-- The flags that the methods give: none moved; update_zn_flags by a byte; then set_flag or clear_flag at C.
+abbrev zned : Machine → ℕ → Machine
+zned m result = withFlags m (zn (m .flags) result)
+
+abbrev carried : Machine → Bool → Machine
+carried m true = withFlags m (setFlag (m .flags) C)
+carried m false = withFlags m (clearFlag (m .flags) C)
+
+pub data FlagsBy (m : Machine) : ℕ → Type 0 where
+  none : FlagsBy m (m .flags)
+  ZN : (result : ℕ) → FlagsBy m (zned m result .flags)
+  ZNC : (result : ℕ) (carry : Bool) → FlagsBy m (carried (zned m result) carry .flags)
+
+by-carry : (m : Machine) (result : ℕ) (carry : Bool) → FlagsBy m (withCarry (zn (m .flags) result) carry)
+unfolding withCarry
+by-carry m result true = ZNC result true
+by-carry m result false = ZNC result false
+
+by-method : (m : Machine) (flags : ℕ) → Moved (m .flags) flags → FlagsBy m flags
+by-method m flags Moved.none = none
+by-method m flags (Moved.ZN result) = ZN result
+by-method m flags (Moved.ZNC result carry) = by-carry m result carry
+
+-- a completed step leaves flags that the methods give
 pub step-flags :
     (input : List ℕ) (s : Situation) → s .machine .halted ≡ false → stepOf input s .answer ≡ 0 ∷ [] →
-    Moved (s .machine .flags) (stepOf input s .after .machine .flags)
-step-flags input s h zero = rw (step-awake input s h) (by (went input s))
+    FlagsBy (s .machine) (stepOf input s .after .machine .flags)
+step-flags input s h zero = rw (step-awake input s h) (by-method (s .machine) _ (by (went input s)))
   where
     by : Went input s → Moved (s .machine .flags) (settled (turnOf (viewOf input s)) s .after .machine .flags)
     by (goes e d t) =
