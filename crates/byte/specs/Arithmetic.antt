@@ -1,7 +1,7 @@
 -- "ADD, SUB, MUL and value forms: d op s, low byte, ZN, C when the exact result is outside 0..255.
 -- DIV, MOD: quotient, remainder, ZN, C cleared." The byte and the bit of each; the flags are Flags.antt's.
 use Prim.Native.Nat.{ℕ, _+_, _-_, _*_, _/_, _%_}
-use mathlib.Core.Bool.{Bool, false}
+use mathlib.Core.Bool.{false}
 use lib.Dec.{ltb}
 use Rattle.byte.specs.declared.Carried.{Carried}
 

@@ -1,6 +1,5 @@
 -- "SHL, SHR, ROL, ROR by one: ZN, C the bit that left. Rotations do not pass through C."
 use Prim.Native.Nat.{ℕ, _+_, _*_, _/_, _%_}
-use mathlib.Core.Bool.{Bool}
 use lib.Dec.{eqb}
 use Rattle.byte.specs.declared.Carried.{Carried}
 

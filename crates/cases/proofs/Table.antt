@@ -1,6 +1,6 @@
 -- The test of the whole table is computed once, and one law turns it into what each row says.
-use mathlib.Core.Path.{_≡_, refl, sym, _∙_, ap}
-use mathlib.Core.Bool.{Bool, true, _&&_, and-eq-true-iff}
+use mathlib.Core.Path.{_≡_, refl, _∙_, ap}
+use mathlib.Core.Bool.{Bool, true, and-eq-true-iff}
 use mathlib.Core.List.{List, [], _∷_, List·Memᴰ, List·Memᴰ·not-nil, List·Memᴰ·cases-cons}
 use mathlib.Core.Logic.{⊎-elim}
 use Prim.Native.Nat.{ℕ}
@@ -14,7 +14,7 @@ use Rattle.turn.specs.Turn.{turnOf}
 use Rattle.nanocore.specs.Load.{loadOf}
 use Rattle.nanocore.specs.Run.{runBy}
 use Rattle.nanocore.specs.Step.{stepOf}
-use Rattle.cases.specs.Cases.{Part, Answer, untold, gives, Row, rows, started, said, held, answerOf, machineOf, every, fits, holds}
+use Rattle.cases.specs.Cases.{Part, gives, Row, rows, started, said, held, answerOf, machineOf, every, fits, holds}
 
 pub all-hold : every holds rows ≡ true
 unfolding zn withCarry kept loaded flagged jumped pushed fateOf decodedOf turnOf stepOf runBy loadOf

@@ -1,6 +1,6 @@
 -- Laws that the crates above cite: what encode gives is decoded to the same instruction; what decode gives has its operation's form,
 -- and encode takes it; an answer's number and values tell the answer.
-use mathlib.Core.Path.{_≡_, refl, sym, _∙_, ap}
+use mathlib.Core.Path.{_≡_, refl, ap}
 use mathlib.Core.Bool.{Bool, true, false, cond, and-eq-true-iff}
 use mathlib.Core.List.{List, [], _∷_}
 use Prim.Native.Nat.{ℕ, _+_, _*_, _/_, _%_, _<_}

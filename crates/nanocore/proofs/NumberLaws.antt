@@ -19,9 +19,7 @@ use Rattle.nanocore.specs.declared.answer.RunOutcome.{RunOutcome}
 use Rattle.nanocore.specs.declared.answer.StepAnswer.{StepAnswer}
 use Rattle.nanocore.specs.declared.answer.StepAnswer.the-variants.{Stepped, AlreadyHalted, CountFull}
 use Rattle.nanocore.specs.declared.answer.StepOutcome.{StepOutcome}
-use Rattle.nanocore.specs.Load.{Loading}
 use Rattle.nanocore.specs.Numbers.{stepNumber, runNumber, loadNumber, stepping, running, loading}
-use Rattle.nanocore.specs.Step.{Answered}
 
 -- the answer that has this number and these values
 abbrev stepAnswer : List ℕ → StepAnswer

@@ -5,7 +5,7 @@ use mathlib.Core.List.{List, [], _∷_}
 use Prim.Native.Nat.{ℕ, zero, suc, _+_, _-_, _≤_, _<_}
 use native.Mathlib.Nat.{not-suc-le-zero}
 use native.Mathlib.Omega.{arith}
-use lib.Dec.{eqb, leb}
+use lib.Dec.{eqb}
 use borrow.Author.Tests.{eqb-true, ne-eqb, le-leb, lt-leb}
 use Rattle.effect.specs.declared.Effect.{Effect}
 use Rattle.effect.specs.Effects.{Fate, done, halt, refused}
@@ -17,10 +17,10 @@ use Rattle.nanocore.specs.declared.answer.StepAnswer.the-variants.{Stepp
 use Rattle.nanocore.specs.declared.answer.StepOutcome.{StepOutcome}
 use Rattle.nanocore.specs.declared.machine.Machine.{Machine}
 use Rattle.nanocore.specs.Machine.{mostCount}
-use Rattle.nanocore.specs.Numbers.{stepNumber, runNumber, asRun, stepping}
-use Rattle.nanocore.specs.Run.{looked, runBy, runOf}
+use Rattle.nanocore.specs.Numbers.{stepNumber, runNumber, stepping}
+use Rattle.nanocore.specs.Run.{onward, then, looked, runBy, runOf}
 use Rattle.nanocore.specs.Step.{Situation, Answered, viewOf, applied, refusedAt, settled, situated, stepOf}
-use Rattle.nanocore.specs.Turns.{awake, onward, then, turnsOf}
+use Rattle.nanocore.specs.Turns.{asRun, awake, turnsOf}
 use Rattle.nanocore.proofs.TurnLaws.{fault-stops}
 
 -- a machine that is not halted is itself, awake

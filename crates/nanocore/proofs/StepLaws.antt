@@ -14,7 +14,7 @@ use Rattle.turn.proofs.Laws.{Moved, executed, flags-moved}
 use Rattle.instruction.specs.Operands.{firstOf, secondOf}
 use Rattle.nanocore.specs.declared.machine.Machine.{Machine}
 use Rattle.nanocore.specs.Machine.{withFlags, mostCount}
-use Rattle.nanocore.specs.Step.{Situation, Answered, viewOf, counted, settled, unhalted, stepOf}
+use Rattle.nanocore.specs.Step.{Situation, viewOf, counted, settled, unhalted, stepOf}
 use Rattle.nanocore.proofs.RunLaws.{Went, goes, stops, went, step-awake}
 
 -- "Refusals 2 to 9 leave machine, places and output as found"

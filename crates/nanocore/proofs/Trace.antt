@@ -2,7 +2,7 @@
 use mathlib.Core.Path.{_≡_, refl, sym, _∙_, ap}
 use mathlib.Core.Bool.{Bool, true, false}
 use mathlib.Core.List.{List, [], _∷_}
-use Prim.Native.Nat.{ℕ, zero, suc, _+_, _-_, _≤_, _<_}
+use Prim.Native.Nat.{ℕ, zero, suc, _-_, _≤_, _<_}
 use native.Mathlib.Nat.{not-suc-le-zero, le-of-suc-le-suc, suc-inj}
 use native.Mathlib.Omega.{arith}
 use lib.Dec.{leb}
@@ -10,10 +10,9 @@ use borrow.Author.Tests.{leb-true, leb-false, lt-leb}
 use Rattle.effect.specs.Numbers.{numberOf}
 use Rattle.turn.specs.Turn.{turnOf}
 use Rattle.nanocore.specs.Machine.{mostCount}
-use Rattle.nanocore.specs.Run.{looked, runBy, runOf}
-use Rattle.nanocore.specs.Step.{Situation, Answered, viewOf, applied, refusedAt, settled, stepOf}
+use Rattle.nanocore.specs.Run.{onward, then, runBy, runOf}
+use Rattle.nanocore.specs.Step.{Situation, Answered, viewOf, applied, settled, stepOf}
 use Rattle.nanocore.specs.Trace.{afterSteps, Ended, Ran}
-use Rattle.nanocore.specs.Turns.{onward, then}
 use Rattle.nanocore.proofs.RunLaws.{Kept, Went, goes, stops, went, look, stopped, step-awake, run-halted, run-full}
 
 -- How a machine stands before a look: halted, at its limit, or with a step to take, which goes on or stops.

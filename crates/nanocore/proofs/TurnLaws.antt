@@ -1,6 +1,6 @@
 -- What so many turns come to, by what the first of them comes to.
-use mathlib.Core.Path.{_≡_, refl, sym, _∙_, ap}
-use mathlib.Core.Bool.{Bool, true, false}
+use mathlib.Core.Path.{_≡_, refl, _∙_}
+use mathlib.Core.Bool.{false}
 use mathlib.Core.List.{List, [], _∷_}
 use Prim.Native.Nat.{ℕ, zero, suc, _-_, _<_, _≤_}
 use native.Mathlib.Nat.{not-suc-le-zero}
@@ -19,12 +19,13 @@ use Rattle.effect.specs.declared.Fault.the-variants.{
   NoInput,
   NoRoom,
 }
-use Rattle.effect.specs.Effects.{Fate, done, halt, refused}
+use Rattle.effect.specs.Effects.{done, halt, refused}
 use Rattle.effect.specs.Numbers.{faultNumber}
 use Rattle.turn.specs.Turn.{turnOf}
 use Rattle.nanocore.specs.Machine.{mostCount}
-use Rattle.nanocore.specs.Step.{Situation, Answered, viewOf, registersAfter, applied, haltedAt, refusedAt, settled}
-use Rattle.nanocore.specs.Turns.{onward, then, turnsOf}
+use Rattle.nanocore.specs.Step.{Situation, viewOf, registersAfter, applied, haltedAt, refusedAt, settled}
+use Rattle.nanocore.specs.Run.{onward, then}
+use Rattle.nanocore.specs.Turns.{turnsOf}
 
 -- a write leaves as many registers as there were
 pub length-registers : (w : Write) (rs : List ℕ) → length (registersAfter w rs) ≡ length rs

@@ -11,7 +11,6 @@ use Rattle.nanocore.specs.declared.answer.StepAnswer.{StepAnswer}
 use Rattle.nanocore.specs.declared.answer.StepAnswer.the-variants.{Stepped, AlreadyHalted, CountFull}
 use Rattle.nanocore.specs.declared.answer.StepOutcome.{StepOutcome}
 use Rattle.nanocore.specs.declared.answer.LoadOutcome.{LoadOutcome}
-use Rattle.nanocore.specs.declared.machine.Machine.{Machine}
 use Rattle.nanocore.specs.Load.{Loading}
 use Rattle.nanocore.specs.Step.{Answered, situated}
 
@@ -26,14 +25,6 @@ abbrev pub runNumber : RunAnswer → List ℕ
 runNumber RunAnswer.Halted = 1 ∷ []
 runNumber (RunAnswer.Refused f) = faultNumber f
 runNumber (LimitReached limit) = 10 ∷ limit ∷ []
-
--- what the turns up to the limit mean for a run: 10 where the last of them answered 0; the cases of 2 and 9 do not occur
-abbrev pub asRun : StepAnswer → ℕ → RunAnswer
-asRun Stepped limit = LimitReached limit
-asRun StepAnswer.Halted limit = RunAnswer.Halted
-asRun AlreadyHalted limit = RunAnswer.Halted
-asRun (StepAnswer.Refused f) limit = RunAnswer.Refused f
-asRun CountFull limit = LimitReached limit
 
 abbrev pub loadNumber : LoadAnswer → List ℕ
 loadNumber Loaded = 0 ∷ []

@@ -3,9 +3,18 @@
 use Prim.Native.Nat.{ℕ, zero, suc, _-_}
 use mathlib.Core.Bool.{Bool, true, false}
 use mathlib.Core.List.{List, [], _∷_}
-use lib.Dec.{leb}
+use lib.Dec.{eqb, leb}
 use Rattle.nanocore.specs.Step.{Situation, Answered, refusedAt, stepOf}
-use Rattle.nanocore.specs.Turns.{onward, then}
+
+-- "0: stepped": the one answer after which there is a next step
+abbrev pub onward : List ℕ → Bool
+onward [] = false
+onward (n ∷ []) = eqb n 0
+onward (n ∷ v ∷ vs) = false
+
+abbrev pub then : Bool → Answered → (Situation → Answered) → Answered
+then true r rest = rest (r .after)
+then false r rest = r
 
 -- by whether the machine is halted, and whether its count is at or above its limit; after a step that answers 0 there is a next look
 abbrev pub looked : Bool → Bool → Answered → (Situation → Answered) → Situation → Answered

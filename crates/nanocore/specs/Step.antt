@@ -4,7 +4,6 @@ use mathlib.Core.Bool.{Bool, true, false}
 use mathlib.Core.List.{List, [], _∷_}
 use lib.Dec.{eqb, ltb}
 use lib.ListN.{length, set}
-use Rattle.effect.specs.declared.core.Core.{Core}
 use Rattle.effect.specs.declared.Effect.{Effect}
 use Rattle.effect.specs.declared.Write.{Write}
 use Rattle.effect.specs.declared.Write.the-variants.{Nothing, Register, Memory, Output}

@@ -1,14 +1,18 @@
--- So many steps, one after the other, while each answers 0: what the code's one loop does for step and for run.
+-- So many steps, one after the other, while each answers 0: what the one private loop behind step and run promises. Whoever reads what step and
+-- run are need not read this.
 use Prim.Native.Nat.{ℕ, zero, suc}
-use mathlib.Core.Bool.{Bool, true, false}
+use mathlib.Core.Bool.{Bool, false}
 use mathlib.Core.List.{List, [], _∷_}
-use lib.Dec.{eqb}
 use Rattle.turn.specs.Turn.{turnOf}
 use Rattle.effect.specs.declared.core.Core.{Core}
+use Rattle.nanocore.specs.declared.answer.RunAnswer.{RunAnswer}
+use Rattle.nanocore.specs.declared.answer.RunAnswer.the-variants.{LimitReached}
 use Rattle.nanocore.specs.declared.answer.StepAnswer.{StepAnswer}
+use Rattle.nanocore.specs.declared.answer.StepAnswer.the-variants.{Stepped, AlreadyHalted, CountFull}
 use Rattle.nanocore.specs.declared.answer.StepOutcome.{StepOutcome}
 use Rattle.nanocore.specs.declared.machine.Machine.{Machine}
 use Rattle.nanocore.specs.declared.turns.Tally.{Tally}
+use Rattle.nanocore.specs.Run.{onward, then}
 use Rattle.nanocore.specs.Step.{Situation, Answered, viewOf, settled}
 
 -- the machine, not halted
@@ -45,18 +49,16 @@ endedWith answer registers memory core halted tally =
       written = tally .written;
     }
 
--- "0: stepped": the one answer after which there is a next step
-abbrev pub onward : List ℕ → Bool
-onward [] = false
-onward (n ∷ []) = eqb n 0
-onward (n ∷ v ∷ vs) = false
-
-abbrev pub then : Bool → Answered → (Situation → Answered) → Answered
-then true r rest = rest (r .after)
-then false r rest = r
-
 unfoldable pub turnsOf : ℕ → List ℕ → Situation → Answered
 turnsOf zero input s = record { answer = 0 ∷ []; after = s }
 turnsOf (suc k) input s =
     let r = settled (turnOf (viewOf input s)) s in
     then (onward (r .answer)) r (turnsOf k input)
+
+-- what the turns up to the limit mean for a run: 10 where the last of them answered 0; the cases of 2 and 9 do not occur
+abbrev pub asRun : StepAnswer → ℕ → RunAnswer
+asRun Stepped limit = LimitReached limit
+asRun StepAnswer.Halted limit = RunAnswer.Halted
+asRun AlreadyHalted limit = RunAnswer.Halted
+asRun (StepAnswer.Refused f) limit = RunAnswer.Refused f
+asRun CountFull limit = LimitReached limit

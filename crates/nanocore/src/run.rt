@@ -1,8 +1,9 @@
 // Until halted, refused or at the limit. A refused run leaves the machine as its last completed step left it.
 ghost use mathlib.Core.Path.{_≡_};
-ghost use Rattle.nanocore.specs.Numbers.{asRun, running};
+ghost use Rattle.nanocore.specs.Numbers.{running};
 ghost use Rattle.nanocore.specs.Run.{runOf};
 ghost use Rattle.nanocore.specs.Step.{situated};
+ghost use Rattle.nanocore.specs.Turns.{asRun};
 use crate::answer::RunAnswer;
 use crate::answer::RunOutcome;
 use crate::answer::StepAnswer;

@@ -1,6 +1,6 @@
 -- Laws of the forty operations that the crates above cite: what holds of each of the forty holds of every operation; bytes and
 -- operations determine each other.
-use mathlib.Core.Path.{_≡_, refl, sym, _∙_, ap}
+use mathlib.Core.Path.{_≡_, refl, ap}
 use mathlib.Core.List.{List, [], _∷_, map}
 use Prim.Native.Nat.{ℕ, zero, suc, _<_, _≤_}
 use native.Mathlib.Nat.{le-of-suc-le-suc, not-suc-le-zero}
@@ -9,9 +9,8 @@ use lib.Dec.{ltb}
 use mathlib.Core.Bool.{true}
 use lib.ListN.{length, getD, drop}
 use Rattle.op.specs.declared.operation.Op.{Op}
-use Rattle.op.specs.declared.operation.Lookup.{Lookup}
 use Rattle.op.specs.declared.operation.Lookup.the-variants.{Found, Unknown}
-use Rattle.op.specs.Operations.{ops, opAt, decoded, byteOf, formOf}
+use Rattle.op.specs.Operations.{ops, opAt, decoded, byteOf}
 
 -- a family at each operation of a list
 abbrev pub All : (Op → Type 0) → List Op → Type 0

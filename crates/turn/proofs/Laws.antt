@@ -11,29 +11,13 @@ use Rattle.byte.proofs.Below.{both}
 use Rattle.effect.specs.declared.Effect.{Effect}
 use Rattle.byte.specs.Flags.{zn, withCarry}
 use Rattle.effect.specs.Numbers.{numberOf}
-use Rattle.effect.specs.Effects.{
-  kept,
-  loaded,
-  flagged,
-  jumped,
-  pushed,
-  Before,
-  nothing,
-  halts,
-  fault,
-  crowded,
-  Fate,
-  done,
-  refused,
-  fateBy,
-  prints,
-}
+use Rattle.effect.specs.Effects.{kept, loaded, flagged, jumped, pushed, Before, nothing, halts, fault, crowded, done, refused, fateBy, prints}
 use Rattle.op.specs.declared.operation.Op.{Op}
 use Rattle.op.specs.declared.operation.Op.the-variants.{PRINT}
 use Rattle.op.specs.declared.operation.Lookup.{Lookup}
 use Rattle.op.specs.declared.operation.Lookup.the-variants.{Found, Unknown}
 use Rattle.op.specs.Operations.{byteOf, decoded, formOf}
-use Rattle.op.proofs.Laws.{All, each, _&_, agree, byte-injective}
+use Rattle.op.proofs.Laws.{each, _&_, agree, byte-injective}
 use Rattle.instruction.specs.declared.operands.Operands.{Operands}
 use Rattle.instruction.specs.Decode.{Decoding, decodingOf, decodedOf}
 use Rattle.instruction.specs.Operands.{operandsOf, firstOf, secondOf}

@@ -9,9 +9,11 @@ use lib.ListN.{length}
 use Rattle.effect.specs.declared.core.Core.{Core}
 use Rattle.effect.specs.Numbers.{fate}
 use Rattle.turn.proofs.Laws.{prints-room}
+use Rattle.nanocore.specs.declared.answer.StepAnswer.the-variants.{Stepped}
 use Rattle.nanocore.specs.declared.turns.Tally.{Tally}
+use Rattle.nanocore.specs.Numbers.{stepping}
 use Rattle.nanocore.specs.Step.{Situation}
-use Rattle.nanocore.specs.Turns.{turnsOf}
+use Rattle.nanocore.specs.Turns.{endedWith, turnsOf}
 use Rattle.nanocore.proofs.TurnLaws.{length-registers, fault-stops, turns-none, turns-refused, turns-halted, turns-full, turns-done}
 use Rattle.nanocore.proofs.turns.turns.Statement.{statement}
 use Rattle.nanocore.proofs.turns.turns.Tie as tie
@@ -19,22 +21,7 @@ use Rattle.nanocore.proofs.turns.turns.Tie as tie
 -- the situation that the locals make
 abbrev here : List ℕ → List ℕ → Core → Tally → List ℕ → Situation
 here registers memory core tally output =
-    record {
-      machine =
-          record {
-            registers = registers;
-            memory = memory;
-            pc = core .pc;
-            sp = core .sp;
-            flags = core .flags;
-            halted = false;
-            count = tally .count;
-            limit = tally .limit;
-          };
-      place = core .place;
-      output = output;
-      written = tally .written;
-    }
+    stepping (endedWith Stepped registers memory core false tally) output .after
 
 abbrev Inv-loop : tie.InvT-loop
 Inv-loop most input place output₀ written registers₀ memory₀ core₀ tally₀ left₀ output registers memory core tally left =

@@ -1,9 +1,6 @@
 -- The write is told at each arm; one that prints has room.
 use native.Mathlib.Omega.{arith}
-use mathlib.Core.Path.{_≡_, refl, ap}
-use mathlib.Core.Bool.{true}
-use Prim.Native.Nat.{_<_}
-use lib.ListN.{length}
+use mathlib.Core.Path.{refl, ap}
 use Rattle.effect.specs.Effects.{prints}
 use borrow.Author.Needs.{needs}
 use Rattle.nanocore.proofs.write.write_output.Statement.{statement}

@@ -1,8 +1,6 @@
 -- A halted machine and one at its limit are handed back; any other takes the turns up to its limit.
 use mathlib.Core.Path.{sym}
-use native.Mathlib.Omega.{arith}
 use Rattle.nanocore.proofs.RunLaws.{run-halted, run-full, run-last}
-use native.Mathlib.Omega.{arith}
 use native.Mathlib.Omega.{arith}
 use borrow.Author.Needs.{needs}
 use Rattle.nanocore.proofs.machine.Machine.run.Statement.{statement}

@@ -1,5 +1,5 @@
 -- The table is the forms of the forty, read at the operation's own byte.
-use mathlib.Core.Path.{_≡_, refl}
+use mathlib.Core.Path.{refl}
 use mathlib.Core.List.{map}
 use borrow.Author.Needs.{needs}
 use lib.ListN.{getD}

@@ -1,5 +1,5 @@
 -- Both tables hold a column of the forty, read at the operation's own byte.
-use mathlib.Core.Path.{_≡_, refl}
+use mathlib.Core.Path.{refl}
 use mathlib.Core.List.{map, []}
 use borrow.Author.Needs.{needs}
 use lib.ListN.{length, getD}
