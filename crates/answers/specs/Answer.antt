@@ -1,0 +1,47 @@
+-- What a step, a run or a load answers, as numbers and bytes that can be compared one by one.
+use Prim.Native.Nat.{ℕ, _%_}
+use mathlib.Core.Bool.{Bool, true, false}
+use mathlib.Core.List.{List, [], _∷_}
+use lib.ListN.{getD}
+use Rattle.nanocore.specs.declared.machine.Machine.{Machine}
+use Rattle.nanocore.specs.Load.{Loading, loadOf}
+use Rattle.nanocore.specs.Run.{runOf}
+use Rattle.nanocore.specs.Step.{Answered, situated, stepOf}
+use Rattle.answers.specs.declared.answer.Answer.{Answer}
+use Rattle.answers.specs.declared.answer.Kind.{Kind}
+use Rattle.answers.specs.declared.answer.Kind.the-variants.{Step, Run, Load}
+use Rattle.answers.specs.declared.number.Numbered.{Numbered}
+
+-- a number and its values, 0 for a value that there is not
+abbrev pub numbered : List ℕ → Numbered
+numbered l = record { number = getD l 0 0; first = getD l 1 0; second = getD l 2 0 }
+
+abbrev pub bit : Bool → ℕ
+bit true = 1
+bit false = 0
+
+-- all that a caller has afterwards, but for the output
+abbrev pub answerBy : Numbered → Machine → ℕ → ℕ → Answer
+answerBy n m place written =
+    record {
+      numbers =
+          n .number ∷ n .first ∷ n .second ∷ m .pc ∷ m .sp ∷ m .flags ∷ bit (m .halted) ∷ m .count ∷ m .limit ∷ place
+          ∷ written
+          ∷ [];
+      registers = m .registers;
+      memory = m .memory;
+    }
+
+abbrev pub answerOf : Answered → Answer
+answerOf r = answerBy (numbered (r .answer)) (r .after .machine) (r .after .place) (r .after .written)
+
+-- a load leaves place, output and number as they were
+abbrev pub loadedWith : Loading → ℕ → List ℕ → ℕ → Answered
+loadedWith l place output written =
+    record { answer = l .answer; after = situated (l .machine) place output written }
+
+-- "For `load` the place is the start address"
+abbrev pub answered : Kind → Machine → List ℕ → ℕ → List ℕ → ℕ → Answered
+answered Step m input place output written = stepOf input (situated m place output written)
+answered Run m input place output written = runOf input (situated m place output written)
+answered Load m input place output written = loadedWith (loadOf m input (place % 256)) place output written

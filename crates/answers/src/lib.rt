@@ -1,0 +1,6 @@
+// What a step, a run or a load answers, as numbers and bytes that can be compared one by one.
+
+// All of an answer.
+pub mod answer;
+// The paper's number and values.
+pub mod number;

@@ -1,0 +1,2 @@
+pub mod UnhexLaws
+pub mod Inside

@@ -1,0 +1,4 @@
+// Bytes as text.
+
+// Hexadecimal digits to bytes.
+pub mod unhex;

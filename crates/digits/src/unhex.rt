@@ -1,0 +1,68 @@
+// Digits to bytes: two hexadecimal digits to a byte, blanks and bars between bytes.
+ghost use mathlib.Core.Path.{_≡_};
+ghost use Rattle.digits.specs.Unhex.{digitOf, parts as Unhex·parts, unhexed, told};
+
+pub enum Unhexed {
+    // so many bytes, at the start of the buffer
+    Bytes(usize),
+    // at this place of the text stands something that is no byte, or one for which there is no room
+    Stopped(usize),
+}
+
+// No digit waits for its second.
+const NONE: u8 = 16;
+
+pub fn unhex(text: &[u8], buffer: &mut [u8]) -> Unhexed
+    ensures { λ r. ⌜ told r (now (buffer .exit)) ≡ unhexed (now (text .entry)) (now (buffer .entry)) ⌝ }
+{
+    let mut high = NONE;
+    let mut count: usize = 0;
+    let mut i: usize = 0;
+    while i < text.len() {
+        let c = text[i];
+        let d = digit(c);
+        if d < 16 {
+            if high < 16 {
+                if count >= buffer.len() {
+                    return Unhexed::Stopped(i);
+                }
+                buffer[count] = high * 16 + d;
+                count += 1;
+                high = NONE;
+            } else {
+                high = d;
+            }
+        } else {
+            if high != NONE {
+                return Unhexed::Stopped(i);
+            }
+            if !parts(c) {
+                return Unhexed::Stopped(i);
+            }
+        }
+        i += 1;
+    }
+    if high == NONE {
+        return Unhexed::Bytes(count);
+    }
+    Unhexed::Stopped(i)
+}
+
+// The value of a digit in either case, and 16 where the byte is none.
+fn digit(c: u8) -> u8
+    ensures { λ r. ⌜ r ≡ digitOf c ⌝ }
+{
+    match c {
+        48..=57 => c - 48,
+        65..=70 => c - 55,
+        97..=102 => c - 87,
+        _ => NONE,
+    }
+}
+
+// What may stand between bytes.
+fn parts(c: u8) -> bool
+    ensures { λ r. ⌜ r ≡ Unhex·parts c ⌝ }
+{
+    if c == b' ' { true } else { c == b'|' }
+}

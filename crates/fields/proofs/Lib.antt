@@ -1,0 +1,4 @@
+pub mod Fill
+pub mod ReadLaws
+pub mod LayLaws
+pub mod ApartLaws

@@ -1,0 +1,16 @@
+-- Past the end the definition has its default.
+use mathlib.Core.Path.{sym}
+use denote.Ref.{now}
+use borrow.Author.Needs.{needs}
+use lib.ListN.{List·getD-eq-default}
+use Rattle.fields.proofs.read.number_at.Statement.{statement}
+use Rattle.fields.proofs.read.number_at.Tie as tie
+
+pub number-at-spec : {M : Type 1} → statement M
+number-at-spec =
+    tie.close
+    (tie.spec
+    (λ c. search needs)
+    (λ c. search needs)
+    (λ c. search needs)
+    (λ c. sym (List·getD-eq-default (now (c .before .args .numbers)) 0 (c .if1 .left))))

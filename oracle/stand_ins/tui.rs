@@ -1,0 +1,1 @@
+//! Stand-in for NanoCore's module `tui`: the four files declare it and use nothing of it.
