@@ -1,5 +1,5 @@
 -- Laws of where two lists part: lists of one length that are alike to their end are one list, and what each turn of the code does.
-use mathlib.Core.Path.{_≡_, refl, ap}
+use mathlib.Core.Path.{_≡_, refl}
 use mathlib.Core.Bool.{Bool, true, false, cond}
 use mathlib.Core.List.{List, [], _∷_}
 use Prim.Native.Nat.{ℕ, suc, _+_, _≤_, _<_}
@@ -10,10 +10,6 @@ use lib.ListN.{length, getD, drop, drop-of-length-le}
 use lib.Seq.{drop-cons}
 use borrow.Author.Tests.{eqb-true, eq-eqb, ne-eqb}
 use Rattle.fields.specs.Apart.{alike}
-
-pub alike-self : (a : List ℕ) → alike a a ≡ length a
-alike-self [] = refl
-alike-self (x ∷ xs) = rw (eq-eqb x x refl) (ap suc (alike-self xs))
 
 no-more : (t : Bool) (m n : ℕ) → m ≤ n → cond t (suc m) 0 ≤ suc n
 no-more true m n h = omega arith

@@ -1,22 +1,12 @@
--- Laws of what is laid: no length changes, and what each turn of the code does.
-use mathlib.Core.Path.{_≡_, refl, _∙_}
+-- Laws of what is laid: what each turn of the code does, and what is past an end.
+use mathlib.Core.Path.{_≡_, refl}
 use mathlib.Core.List.{List, [], _∷_}
 use Prim.Native.Nat.{ℕ, suc, _+_, _≤_, _<_}
 use native.Mathlib.Numerals.{add-one}
 use native.Mathlib.Omega.{arith}
-use lib.ListN.{length, getD, set, drop, length-set}
+use lib.ListN.{length, getD, set, drop}
 use lib.Seq.{drop-cons, set-out}
 use Rattle.fields.specs.Lay.{changed, laid}
-
-pub length-changed : (memory pairs : List ℕ) → length (changed memory pairs) ≡ length memory
-length-changed memory [] = refl
-length-changed memory (address ∷ []) = refl
-length-changed memory (address ∷ byte ∷ rest) =
-    length-changed (set memory address byte) rest ∙ length-set memory address byte
-
-pub length-laid : (buffer : List ℕ) (at : ℕ) (bytes : List ℕ) → length (laid buffer at bytes) ≡ length buffer
-length-laid buffer at [] = refl
-length-laid buffer at (b ∷ bs) = length-laid (set buffer at b) (at + 1) bs ∙ length-set buffer at b
 
 -- fewer than two bytes change nothing
 pub changed-short : (memory pairs : List ℕ) → length pairs < 2 → changed memory pairs ≡ memory
