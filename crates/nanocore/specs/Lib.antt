@@ -2,6 +2,5 @@ pub mod Machine
 pub mod Step
 pub mod Run
 pub mod Load
-pub mod Trace
 pub mod Numbers
 pub mod Turns

@@ -1,21 +1,15 @@
 -- "Names are upper case and exact, read and written."
 use Prim.Native.Nat.{ℕ}
-use Prim.Native.Char.{code}
-use Prim.Native.String.{String}
 use mathlib.Core.Bool.{Bool, true, false, cond, _&&_}
 use mathlib.Core.List.{List, [], _∷_}
 use lib.Dec.{eqb}
 use lib.ListN.{length, getD}
+use Rattle.text.specs.Text.{codes}
 use Rattle.op.specs.declared.name.Name.{Name}
 use Rattle.op.specs.declared.operation.Op.{Op}
 use Rattle.op.specs.declared.operation.Lookup.{Lookup}
 use Rattle.op.specs.declared.operation.Lookup.the-variants.{Found, Unknown}
 use Rattle.op.specs.Operations.{rowOf, ops}
-
--- the codes of a text's characters
-abbrev pub codes : String → List ℕ
-codes String.[] = []
-codes (String._∷_ c s) = code c ∷ codes s
 
 abbrev pub nameOf : Op → List ℕ
 nameOf o = codes (rowOf o .name)

@@ -9,11 +9,11 @@ use lib.Dec.{leb}
 use borrow.Author.Tests.{leb-true, leb-false, lt-leb}
 use Rattle.effect.specs.Numbers.{numberOf}
 use Rattle.turn.specs.Turn.{turnOf}
 use Rattle.nanocore.specs.Machine.{mostCount}
 use Rattle.nanocore.specs.Run.{onward, then, runBy, runOf}
 use Rattle.nanocore.specs.Step.{Situation, Answered, viewOf, applied, settled, stepOf}
-use Rattle.nanocore.specs.Trace.{afterSteps, Ended, Ran}
+use Rattle.steps.specs.Trace.{afterSteps, Ended, Ran}
 use Rattle.nanocore.proofs.RunLaws.{Kept, Went, goes, stops, went, look, stopped, step-awake, run-halted, run-full}
 
 -- How a machine stands before a look: halted, at its limit, or with a step to take, which goes on or stops.
 data Stands (input : List ℕ) (s : Situation) : Type 0 where

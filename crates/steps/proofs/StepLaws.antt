@@ -5,17 +5,21 @@ use mathlib.Core.List.{List, [], _∷_}
 use Prim.Native.Nat.{ℕ, _≤_}
 use native.Mathlib.Omega.{arith}
 use lib.Dec.{eqb}
+use lib.ListN.{getD}
 use Rattle.byte.specs.Flags.{C, setFlag, clearFlag, zn, withCarry}
 use Rattle.effect.specs.declared.Effect.{Effect}
 use Rattle.effect.specs.Effects.{Fate, done, halt, refused}
 use Rattle.effect.specs.Numbers.{numberOf}
+use Rattle.op.specs.Operations.{ops}
+use Rattle.op.proofs.Laws.{past}
+use Rattle.instruction.specs.Decode.{decodedOf}
 use Rattle.turn.specs.Turn.{turnOf}
 use Rattle.turn.proofs.Laws.{Moved, executed, flags-moved}
 use Rattle.instruction.specs.Operands.{firstOf, secondOf}
 use Rattle.nanocore.specs.declared.machine.Machine.{Machine}
 use Rattle.nanocore.specs.Machine.{withFlags, mostCount}
-use Rattle.nanocore.specs.Step.{Situation, viewOf, counted, settled, unhalted, stepOf}
+use Rattle.nanocore.specs.Step.{Situation, viewOf, refusedAt, counted, settled, unhalted, stepOf}
 use Rattle.nanocore.proofs.RunLaws.{Went, goes, stops, went, step-awake}
 
 -- "Refusals 2 to 9 leave machine, places and output as found"
 counted-same : (b : Bool) (e : Effect) (s : Situation) → 2 ≤ numberOf (counted b e s .answer) → counted b e s .after ≡ s
@@ -34,6 +38,13 @@ unhalted-same false f s h = settled-same f s h
 pub refused-same : (input : List ℕ) (s : Situation) → 2 ≤ numberOf (stepOf input s .answer) → stepOf input s .after ≡ s
 unfolding stepOf
 refused-same input s h = unhalted-same (s .machine .halted) (turnOf (viewOf input s)) s h
+
+-- a byte that is none of the forty is never run as something else: the step gives it back with its address, and changes nothing
+pub unknown-refused :
+    (input : List ℕ) (s : Situation) → s .machine .halted ≡ false → 40 ≤ getD (s .machine .memory) (s .machine .pc) 0 →
+    stepOf input s ≡ refusedAt (3 ∷ getD (s .machine .memory) (s .machine .pc) 0 ∷ s .machine .pc ∷ []) s
+unfolding stepOf turnOf decodedOf
+unknown-refused input s awake h = rw (awake, ← past ops (getD (s .machine .memory) (s .machine .pc) 0) h)
 
 -- The flags that the methods give: none moved; update_zn_flags by a byte; then set_flag or clear_flag at C.
 abbrev zned : Machine → ℕ → Machine

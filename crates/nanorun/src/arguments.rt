@@ -1,0 +1,46 @@
+// The two arguments.
+ghost use Rattle.io.specs.Counts.{Counts};
+use crate::say;
+use text::number::Numeral;
+use text::number::number;
+
+// Where none is given, as document 01 has it for a fresh machine.
+const LIMIT: u16 = 1024;
+
+// The path of the rule's file and its length, or 0 after it is said why there is none.
+pub fn rule(path: &mut [u8]) -> usize
+    ensures { λ r. ⌜ Counts r (now (path .exit)) ⌝ }
+{
+    if os::arg_count() > 3 {
+        say::usage();
+        return 0;
+    }
+    let length = os::arg(1, path);
+    if length == 0 {
+        if os::errno() == libc::ENAMETOOLONG {
+            say::failed(b"RULE");
+        } else {
+            say::usage();
+        }
+    }
+    length
+}
+
+// A limit that is not there counts as empty.
+pub fn limit() -> Numeral {
+    let mut text = io::buffer();
+    let length = os::arg(2, &mut text);
+    if length == 0 {
+        if os::errno() == libc::ENAMETOOLONG {
+            say::no_limit(b"that");
+            return Numeral::NoNumber;
+        }
+        return Numeral::Number(LIMIT);
+    }
+    let limit = number(&text[..length]);
+    match limit {
+        Numeral::Number(n) => {},
+        Numeral::NoNumber => say::no_limit(&text[..length]),
+    }
+    limit
+}

@@ -1,0 +1,42 @@
+// A rule with the station's bytes: loaded at 0 into a fresh machine and run.
+ghost use mathlib.Core.Path.{_≡_};
+ghost use Rattle.rule.specs.Rule.{ending, ranFrom, ruleOf};
+use crate::verdict::too_long;
+use crate::verdict::verdict;
+use nanocore::answer::LoadAnswer;
+use nanocore::machine::Machine;
+use text::line::Line;
+
+// The verdict, and how many of the output's bytes the rule printed.
+pub struct Ending {
+    pub verdict: Line,
+    pub written: usize,
+}
+
+pub fn run_rule(rule: &[u8], limit: u16, input: &[u8], output: &mut [u8]) -> Ending
+    ensures { λ r. ⌜ ending r (now (output .exit)) ≡ ruleOf (now (rule .entry)) limit (now (input .entry)) (now (output .entry)) ⌝ }
+{
+    let mut machine = Machine::fresh();
+    machine.limit = limit;
+    let loaded = machine.load(rule, 0);
+    let answer = loaded.answer;
+    match answer {
+        LoadAnswer::TooLong { length, start } => Ending {
+            verdict: too_long(length, start),
+            written: 0,
+        },
+        LoadAnswer::Loaded => run_loaded(loaded.machine, input, output),
+    }
+}
+
+fn run_loaded(machine: Machine, input: &[u8], output: &mut [u8]) -> Ending
+    ensures { λ r. ⌜ ending r (now (output .exit)) ≡ ranFrom machine (now (input .entry)) (now (output .entry)) ⌝ }
+{
+    let ran = machine.run(input, 0, output, 0);
+    let answer = ran.answer;
+    let after = ran.machine;
+    Ending {
+        verdict: verdict(answer, after.count, after.pc),
+        written: ran.written,
+    }
+}

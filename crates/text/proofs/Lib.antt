@@ -1,0 +1,4 @@
+pub mod LineLaws
+pub mod NumberLaws
+pub mod DecimalLaws
+pub mod ReadBack

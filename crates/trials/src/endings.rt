@@ -1,0 +1,54 @@
+// The verdicts of every way to end, with numbers of every length.
+use crate::say;
+use effect::Fault;
+use nanocore::answer::RunAnswer;
+use rule::verdict::too_long;
+use rule::verdict::verdict;
+
+pub fn print() {
+    halted();
+    faults();
+    limits();
+    loads();
+}
+
+fn halted() {
+    say::line(verdict(RunAnswer::Halted, 0, 0));
+    say::line(verdict(RunAnswer::Halted, 5, 6));
+    say::line(verdict(RunAnswer::Halted, 65535, 255));
+}
+
+fn faults() {
+    fault(Fault::InvalidOpcode { opcode: 40, pc: 7 }, 12, 7);
+    fault(
+        Fault::InvalidOpcode {
+            opcode: 255,
+            pc: 255,
+        },
+        0,
+        255,
+    );
+    fault(Fault::StackFull(234), 21, 42);
+    fault(Fault::StackEmpty(255), 9, 10);
+    fault(Fault::DivisorZero(28), 99, 100);
+    fault(Fault::DivisorZero(31), 999, 99);
+    fault(Fault::NoInput, 1000, 9);
+    fault(Fault::NoRoom, 9999, 1);
+}
+
+fn fault(fault: Fault, count: u16, pc: u8) {
+    say::line(verdict(RunAnswer::Refused(fault), count, pc));
+}
+
+fn limits() {
+    say::line(verdict(RunAnswer::LimitReached(0), 0, 0));
+    say::line(verdict(RunAnswer::LimitReached(1024), 1024, 0));
+    say::line(verdict(RunAnswer::LimitReached(65535), 65535, 199));
+}
+
+fn loads() {
+    say::line(too_long(2, 255));
+    say::line(too_long(257, 0));
+    say::line(too_long(300, 0));
+    say::line(too_long(18446744073709551615, 255));
+}

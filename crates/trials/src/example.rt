@@ -1,0 +1,67 @@
+// A rule that is run, and what it was to print.
+ghost use Rattle.io.specs.Counts.{Counts};
+use crate::say;
+use fields::apart::alike;
+use files::Got;
+use rule::rule::run_rule;
+
+// The limit of a fresh machine.
+const LIMIT: u16 = 1024;
+
+// Each file is named by the argument of its number.
+pub fn run(rule: usize, input: usize, output: usize) {
+    let mut program = io::large_buffer();
+    let mut readings = io::large_buffer();
+    let mut expected = io::large_buffer();
+    let a = read_argument(rule, &mut program);
+    let b = read_argument(input, &mut readings);
+    let c = read_argument(output, &mut expected);
+    let mut printed = io::large_buffer();
+    let ending = run_rule(
+        &program[..a.count],
+        LIMIT,
+        &readings[..b.count],
+        &mut printed,
+    );
+    say::argument(rule);
+    say::text(b" printed ");
+    say::number(ending.written);
+    if ending.written == c.count {
+        compared(alike(&printed, &expected), output);
+    } else {
+        differs(output);
+    }
+    say::line(ending.verdict);
+}
+
+// What was not printed is 0 in both, so bytes that are alike to the end of the larger buffers are the same.
+fn compared(same: usize, output: usize) {
+    if same == 65536 {
+        say::text(b" as ");
+        say::argument(output);
+        say::text(b" has\n");
+    } else {
+        differs(output);
+    }
+}
+
+fn differs(output: usize) {
+    say::text(b", not as ");
+    say::argument(output);
+    say::text(b" has\n");
+}
+
+fn read_argument(i: usize, buffer: &mut [u8]) -> Got
+    ensures { λ r. ⌜ Counts (r .count) (now (buffer .exit)) ⌝ }
+{
+    let mut path = io::buffer();
+    let length = os::arg(i, &mut path);
+    let file = os::open_read(&path[..length]);
+    let got = files::read(file, buffer);
+    if got.failed {
+        say::argument(i);
+        say::text(b" could not be read\n");
+    }
+    libc::close(file);
+    got
+}
