@@ -31,6 +31,10 @@ fn run_file(path: &[u8], limit: u16) {
     }
     let mut rule = io::large_buffer();
     let got = files::read(file, &mut rule);
+    if got.failed {
+        say::failed(path);
+        return;
+    }
     let rest = files::skip(file);
     if rest.failed {
         say::failed(path);

@@ -10,9 +10,6 @@ pub struct Line {
     pub length: usize,
 }
 
-// As many digits as the largest number has.
-const DIGITS: usize = 20;
-
 impl Line {
     pub fn empty() -> Line
         ensures { λ r. ⌜ r ≡ emptyLine ⌝ }
@@ -23,6 +20,7 @@ impl Line {
         }
     }
 
+    // A piece of text behind what is there, as far as there is room.
     pub fn text(self, text: &[u8]) -> Line
         ensures { λ r. ⌜ r ≡ appended self (now (text .entry)) ⌝ }
     {
@@ -43,12 +41,12 @@ impl Line {
         }
     }
 
-    // A number in decimal, without leading zeros. The digits come last first.
+    // A number in decimal, without leading zeros. The largest has twenty digits; they come last first.
     pub fn decimal(self, number: usize) -> Line
         ensures { λ r. ⌜ r ≡ appended self (Decimal·decimal number) ⌝ }
     {
         let mut digits = [0; 20];
-        let mut at = DIGITS - 1;
+        let mut at: usize = 19;
         digits[at] = digit(number);
         let mut rest = number / 10;
         while at > 0 {

@@ -54,7 +54,6 @@ decimal-spec =
     (tie.spec
     Inv-loop
     μ-loop
-    (λ c. search needs)
     (λ c κs. search needs)
     (λ c. search needs)
     loop-holds
