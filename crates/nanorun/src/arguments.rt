@@ -1,4 +1,4 @@
-// The two arguments.
+// The two arguments; more are ignored.
 ghost use Rattle.io.specs.Counts.{Counts};
 use crate::say;
 use text::number::Numeral;
@@ -11,10 +11,6 @@ const LIMIT: u16 = 1024;
 pub fn rule(path: &mut [u8]) -> usize
     ensures { λ r. ⌜ Counts r (now (path .exit)) ⌝ }
 {
-    if os::arg_count() > 3 {
-        say::usage();
-        return 0;
-    }
     let length = os::arg(1, path);
     if length == 0 {
         if os::errno() == libc::ENAMETOOLONG {
