@@ -1,7 +1,8 @@
 // What the programs read and write, over the kit's io, os and libc. A read that fails is told apart from an end: a rule or a reading that could not be
 // read is never taken for an empty one.
 ghost use Prim.Native.Nat.{_+_, _≤_};
-ghost use lib.ListN.{length};
+ghost use lib.ListN.{length, drop};
+ghost use mathlib.Core.Path.{_≡_};
 ghost use Rattle.io.specs.Counts.{Counts};
 use std::num::wrapping_add_usize;
 
@@ -35,9 +36,11 @@ pub fn read(file: i32, buffer: &mut [u8]) -> Got
     }
 }
 
-// The same, of so many bytes at most.
+// The same, of so many bytes at most; those of the buffer behind them stay as they are.
 pub fn read_some(file: i32, buffer: &mut [u8], most: usize) -> Got
     ensures { λ r. ⌜ Counts (r .count) (now (buffer .exit)) ⌝ }
+    ensures { λ r. ⌜ r .count ≤ most ⌝ }
+    ensures { λ r. ⌜ drop most (now (buffer .exit)) ≡ drop most (now (buffer .entry)) ⌝ }
 {
     if most >= buffer.len() {
         return read(file, buffer);

@@ -1,13 +1,36 @@
 -- What each turn of writing a number does: its digits come last first. And how many digits there can be.
 use mathlib.Core.Path.{_≡_, refl, sym, _∙_, ap}
 use mathlib.Core.Logic.{_≢_}
-use mathlib.Core.List.{List, [], _∷_}
+use mathlib.Core.Bool.{Bool, true, false, cond}
+use mathlib.Core.List.{List, [], _∷_, _++_, append-assoc}
 use Prim.Native.Nat.{ℕ, zero, suc, _+_, _-_, _/_, _%_, _^_, _≤_, _<_}
 use native.Mathlib.Nat.{le-of-suc-le-suc, pow-zero, pow-suc}
 use native.Mathlib.Omega.{arith}
 use borrow.Author.Tests.{ne-eqb}
+use lib.Dec.{eqb}
 use lib.ListN.{length, set, drop}
-use Rattle.text.specs.Decimal.{digitsBefore, decimal}
+use Rattle.text.specs.Decimal.{lastDigit, digitsOf, decimal}
+
+-- the digits of what is left of a number, before those that stand already: how the code comes by them
+unfoldable pub digitsBefore : ℕ → ℕ → List ℕ → List ℕ
+digitsBefore zero n digits = digits
+digitsBefore (suc k) n digits = cond (eqb n 0) digits (digitsBefore k (n / 10) (lastDigit n ∷ digits))
+
+digits-front : (k n : ℕ) (digits : List ℕ) → digitsBefore k n digits ≡ digitsOf k n ++ digits
+unfolding digitsBefore digitsOf
+digits-front zero n digits = refl
+digits-front (suc k) n digits =
+    by-rest (eqb n 0) (digitsOf k (n / 10)) (digits-front k (n / 10) (lastDigit n ∷ digits))
+  where
+    by-rest :
+        (b : Bool) (front : List ℕ) {rest : List ℕ} → rest ≡ front ++ (lastDigit n ∷ digits) →
+        cond b digits rest ≡ cond b [] (front ++ (lastDigit n ∷ [])) ++ digits
+    by-rest true front e = refl
+    by-rest false front e = e ∙ sym (append-assoc front (lastDigit n ∷ []) digits)
+
+pub decimal-before : (n : ℕ) → decimal n ≡ digitsBefore 19 (n / 10) (lastDigit n ∷ [])
+unfolding decimal
+decimal-before n = sym (digits-front 19 (n / 10) (lastDigit n ∷ []))
 
 -- nothing is left
 pub digits-none : (k : ℕ) (digits : List ℕ) → digitsBefore k 0 digits ≡ digits
@@ -55,8 +78,7 @@ before-few (suc m) (suc k) (suc n) digits h =
 
 -- the last digit always stands, so a number below ten to the k + 1 has at most that many
 pub few-digits : (k n : ℕ) → n < 10 ^ suc k → length (decimal n) ≤ suc k
-unfolding decimal
 few-digits k n h =
     let less : n / 10 < 10 ^ k = omega (arith, pow-suc 10 k) in
-    let rest = before-few 19 k (n / 10) ((48 + n % 10) ∷ []) less in
-    omega arith
+    let rest = before-few 19 k (n / 10) (lastDigit n ∷ []) less in
+    omega (arith, ap length (decimal-before n))

@@ -7,8 +7,8 @@ use native.Mathlib.Nat.{pow-zero, pow-suc}
 use native.Mathlib.Omega.{arith}
 use borrow.Author.Tests.{le-leb, ne-eqb}
 use Rattle.text.specs.declared.number.Numeral.the-variants.{Number}
-use Rattle.text.specs.Decimal.{digitsBefore, decimal, valueFrom, numeral}
-use Rattle.text.proofs.DecimalLaws.{digits-none, digits-more}
+use Rattle.text.specs.Decimal.{decimal, valueFrom, numeral}
+use Rattle.text.proofs.DecimalLaws.{digitsBefore, decimal-before, digits-none, digits-more}
 
 -- the last digit, behind the value of those before it
 digit-read : (n : ℕ) (digits : List ℕ) → n ≤ 65535 → valueFrom (n / 10) ((48 + n % 10) ∷ digits) ≡ valueFrom n digits
@@ -40,6 +40,7 @@ before-read (suc k) (suc n) digits few small led =
     digit-read (suc n) digits small)
 
 pub read-back : (n : ℕ) → n ≤ 65535 → numeral (decimal n) ≡ Number n
-unfolding decimal numeral valueFrom
+unfolding numeral valueFrom
 read-back n h =
-    before-read 19 (n / 10) ((48 + n % 10) ∷ []) (omega arith) (omega arith) (λ none. refl) ∙ digit-read n [] h
+    ap numeral (decimal-before n) ∙
+    (before-read 19 (n / 10) ((48 + n % 10) ∷ []) (omega arith) (omega arith) (λ none. refl) ∙ digit-read n [] h)

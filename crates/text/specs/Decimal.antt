@@ -1,19 +1,23 @@
 -- "numbers are decimal without leading zeros"
 use Prim.Native.Nat.{ℕ, zero, suc, _+_, _*_, _-_, _/_, _%_}
 use mathlib.Core.Bool.{Bool, cond, _&&_}
-use mathlib.Core.List.{List, [], _∷_}
+use mathlib.Core.List.{List, [], _∷_, _++_}
 use lib.Dec.{eqb, leb}
 use Rattle.text.specs.declared.number.Numeral.{Numeral}
 use Rattle.text.specs.declared.number.Numeral.the-variants.{Number, NoNumber}
 
--- what is left of a number, as at most so many digits before those that stand already; nothing is left of 0
-unfoldable pub digitsBefore : ℕ → ℕ → List ℕ → List ℕ
-digitsBefore zero n digits = digits
-digitsBefore (suc k) n digits = cond (eqb n 0) digits (digitsBefore k (n / 10) ((48 + n % 10) ∷ digits))
+-- the last digit of a number
+abbrev pub lastDigit : ℕ → ℕ
+lastDigit n = 48 + n % 10
 
--- the last digit always stands; the largest number that a program holds has twenty
+-- at most so many digits; of 0 there are none
+unfoldable pub digitsOf : ℕ → ℕ → List ℕ
+digitsOf zero n = []
+digitsOf (suc k) n = cond (eqb n 0) [] (digitsOf k (n / 10) ++ (lastDigit n ∷ []))
+
+-- the last digit always stands, behind those of what is left; the largest number that a program holds has twenty
 unfoldable pub decimal : ℕ → List ℕ
-decimal n = digitsBefore 19 (n / 10) ((48 + n % 10) ∷ [])
+decimal n = digitsOf 19 (n / 10) ++ (lastDigit n ∷ [])
 
 abbrev pub isDigit : ℕ → Bool
 isDigit c = leb 48 c && leb c 57

@@ -7,9 +7,9 @@ use denote.Ref.{now}
 use borrow.Author.Needs.{needs}
 use lib.ListN.{length, take, drop, length-set, length-drop}
 use lib.Seq.{take-all}
-use Rattle.text.specs.Decimal.{digitsBefore, decimal}
+use Rattle.text.specs.Decimal.{decimal}
 use Rattle.text.specs.Lines.{appended}
-use Rattle.text.proofs.DecimalLaws.{digits-none, digits-full, digits-turn}
+use Rattle.text.proofs.DecimalLaws.{digitsBefore, decimal-before, digits-none, digits-full, digits-turn}
 use Rattle.text.proofs.line.Line.decimal.Statement.{statement}
 use Rattle.text.proofs.line.Line.decimal.Tie as tie
 
@@ -21,8 +21,7 @@ abbrev μ-loop : tie.MeasureT-loop
 μ-loop self number digits₀ at₀ rest₀ digits at rest = at
 
 loop-holds : tie.Need-loop-holds Inv-loop μ-loop
-unfolding decimal
-loop-holds c = (omega arith, refl, rw (c .digit .ensures))
+loop-holds c = (omega arith, refl, rw (c .digit .ensures) (sym (decimal-before (c .before .args .number))))
 
 loop-again : tie.Need-loop-again Inv-loop μ-loop
 loop-again c =
