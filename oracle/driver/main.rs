@@ -1,6 +1,7 @@
-//! The oracle: asks the original Rust of NanoCore and writes what it answers, a case a line (FORMAT.md).
+//! The oracle: asks the original Rust of NanoCore and writes what it answers, a case or a source a line (FORMAT.md).
 
-use std::io::{self, BufWriter, Write};
+use std::io::{self, BufWriter, StdoutLock, Write};
+use std::path::PathBuf;
 use std::process::ExitCode;
 
 use crate::list::List;
@@ -13,6 +14,7 @@ mod draw;
 mod every;
 mod feed;
 mod instructions;
+mod labels;
 mod line;
 mod list;
 mod operations;
@@ -22,22 +24,31 @@ mod random;
 mod record;
 mod words;
 
-const USAGE: &str = "usage: oracle all N SEED    every case of the exhaustive families, then N random ones
-       oracle record        the list that the repository keeps";
+const USAGE: &str = "usage: oracle all N SEED               every case of the exhaustive families, then N random ones
+       oracle record                   the list that the repository keeps
+       oracle labels N SEED FOLDER     sources for the address pass and their answers, in a new folder: likewise
+       oracle labels record FOLDER     those that the repository keeps, in a folder";
+
+type Out = BufWriter<StdoutLock<'static>>;
 
 enum Wanted {
     All { number: u64, seed: u64 },
     Record,
+    Labels { number: u64, seed: u64, folder: PathBuf },
+    LabelsRecord { folder: PathBuf },
 }
 
 fn wanted(arguments: &[String]) -> Option<Wanted> {
-    match arguments {
-        [word, number, seed] if word == "all" => {
-            Some(Wanted::All { number: number.parse().ok()?, seed: seed.parse().ok()? })
+    let arguments: Vec<&str> = arguments.iter().map(String::as_str).collect();
+    Some(match arguments[..] {
+        ["all", number, seed] => Wanted::All { number: number.parse().ok()?, seed: seed.parse().ok()? },
+        ["record"] => Wanted::Record,
+        ["labels", "record", folder] => Wanted::LabelsRecord { folder: folder.into() },
+        ["labels", number, seed, folder] => {
+            Wanted::Labels { number: number.parse().ok()?, seed: seed.parse().ok()?, folder: folder.into() }
         }
-        [word] if word == "record" => Some(Wanted::Record),
-        _ => None,
-    }
+        _ => return None,
+    })
 }
 
 fn main() -> ExitCode {
@@ -56,11 +67,18 @@ fn main() -> ExitCode {
 }
 
 fn make(wanted: &Wanted) -> io::Result<()> {
-    let mut list = List::new(BufWriter::with_capacity(1 << 20, io::stdout().lock()))?;
-    match *wanted {
-        Wanted::All { number, seed } => all(&mut list, number, seed)?,
-        Wanted::Record => record::record(&mut list)?,
+    match wanted {
+        Wanted::All { number, seed } => listed(|list| all(list, *number, *seed)),
+        Wanted::Record => listed(record::record),
+        Wanted::Labels { number, seed, folder } => labels::all(*number, *seed, folder),
+        Wanted::LabelsRecord { folder } => labels::sample(folder),
     }
+}
+
+/// Makes a list on standard output.
+fn listed(fill: impl FnOnce(&mut List<Out>) -> io::Result<()>) -> io::Result<()> {
+    let mut list = List::new(BufWriter::with_capacity(1 << 20, io::stdout().lock()))?;
+    fill(&mut list)?;
     list.finish()
 }
 

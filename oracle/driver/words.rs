@@ -68,29 +68,34 @@ pub const STRAYS: [&str; 32] = [
 
 /// Every name, and texts near it.
 pub fn names(list: &mut List<impl Write>) -> io::Result<()> {
+    near_names(|text| list.name(text))
+}
+
+/// Visits every name, texts near it and texts that resemble none.
+pub fn near_names(mut visit: impl FnMut(&str) -> io::Result<()>) -> io::Result<()> {
     for op in operations::all() {
         let name: &str = op.into();
-        list.name(name)?;
-        list.name(&name.to_lowercase())?;
-        list.name(&format!("{}{}", &name[..1], name[1..].to_lowercase()))?;
+        visit(name)?;
+        visit(&name.to_lowercase())?;
+        visit(&format!("{}{}", &name[..1], name[1..].to_lowercase()))?;
         for i in 0..name.len() {
             let (before, after) = (&name[..i], &name[i + 1..]);
-            list.name(&format!("{before}{after}"))?;
-            list.name(&format!("{before}{}{after}", name[i..=i].to_lowercase()))?;
-            list.name(&format!("{before}?{after}"))?;
+            visit(&format!("{before}{after}"))?;
+            visit(&format!("{before}{}{after}", name[i..=i].to_lowercase()))?;
+            visit(&format!("{before}?{after}"))?;
         }
         for i in 0..=name.len() {
             let (before, after) = name.split_at(i);
             for letter in ["A", "I", "L", "R", "S", " ", "\t", "\n", "\0", "_", "é"] {
-                list.name(&format!("{before}{letter}{after}"))?;
+                visit(&format!("{before}{letter}{after}"))?;
             }
         }
-        list.name(&format!("{name}{name}"))?;
-        list.name(&name.chars().rev().collect::<String>())?;
+        visit(&format!("{name}{name}"))?;
+        visit(&name.chars().rev().collect::<String>())?;
     }
-    STRAYS.iter().try_for_each(|text| list.name(text))?;
+    STRAYS.iter().try_for_each(|text| visit(text))?;
     for length in [6, 16, 254, 255] {
-        list.name(&"HLT".repeat(length)[..length])?;
+        visit(&"HLT".repeat(length)[..length])?;
     }
     Ok(())
 }

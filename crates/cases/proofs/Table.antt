@@ -6,7 +6,7 @@ use mathlib.Core.Logic.{⊎-elim}
 use Prim.Native.Nat.{ℕ}
 use Rattle.byte.specs.Flags.{zn, withCarry}
 use Rattle.effect.specs.Effects.{kept, loaded, flagged, jumped, pushed}
-use Rattle.op.specs.Names.{sameText}
+use Rattle.op.specs.Names.{named, sameText}
 use Rattle.op.proofs.NameLaws.{sameText-eq}
 use Rattle.instruction.specs.Decode.{decodedOf}
 use Rattle.turn.specs.Meaning.{fateOf}
@@ -14,10 +14,18 @@ use Rattle.turn.specs.Turn.{turnOf}
 use Rattle.nanocore.specs.Load.{loadOf}
 use Rattle.nanocore.specs.Run.{runBy}
 use Rattle.nanocore.specs.Step.{stepOf}
+use Rattle.scan.specs.Class.{passes}
+use Rattle.scan.specs.Scan.{first, last}
+use Rattle.source.specs.Line.{linesOf, lineOf}
+use Rattle.source.specs.Words.{wordsIn}
+use Rattle.source.specs.Meaning.{meaningOf}
+use Rattle.labels.specs.Table.{alike, foundFrom}
+use Rattle.labels.specs.Pass.{labelled, turn, pass, mappingOf}
 use Rattle.cases.specs.Cases.{Part, gives, Row, rows, started, said, held, answerOf, machineOf, every, fits, holds}
 
 pub all-hold : every holds rows ≡ true
 unfolding zn withCarry kept loaded flagged jumped pushed fateOf decodedOf turnOf stepOf runBy loadOf
+    passes first last linesOf lineOf wordsIn named meaningOf alike foundFrom labelled turn pass mappingOf
 all-hold = refl
 
 -- what passes a test throughout a list passes it in each place

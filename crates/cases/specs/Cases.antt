@@ -1,9 +1,13 @@
--- "Cases to prove together, as one table": K1 to K12, each as a start, what is done, and what is then so. A row says what its case says and no more.
+-- "Cases to prove together, as one table": K1 to K13, each as a start, what is done, and what is then so. A row says what its case says and no more.
 use Prim.Native.Nat.{ℕ}
 use mathlib.Core.Bool.{Bool, true, _&&_}
-use mathlib.Core.List.{List, [], _∷_}
+use Prim.Native.String.{String}
+use mathlib.Core.List.{List, [], _∷_, _++_}
 use lib.ListN.{length, getD, take, drop, set}
+use Rattle.text.specs.Text.{codes, lineEnd}
 use Rattle.op.specs.Names.{sameText}
+use Rattle.labels.specs.declared.table.Labels.{Labels}
+use Rattle.labels.specs.Pass.{mappingOf}
 use Rattle.nanocore.specs.declared.machine.Machine.{Machine}
 use Rattle.nanocore.specs.Load.{laid, loadOf}
 use Rattle.nanocore.specs.Machine.{fresh}
@@ -20,13 +24,14 @@ pub data Part : Type 0 where
   count : ℕ → Part
   limit : ℕ → Part
 
--- what is done; a load is of these bytes, from this address on
+-- what is done; a load is of these bytes, from this address on, and a source of these lines is mapped
 pub data Deed : Type 0 where
   step : Deed
   run : Deed
   load : List ℕ → ℕ → Deed
+  map : List String → Deed
 
--- the paper's number and values, where the case tells them
+-- the paper's number and values, or the labels' addresses, where the case tells them
 pub data Answer : Type 0 where
   untold : Answer
   gives : List ℕ → Answer
@@ -74,6 +79,8 @@ rows =
     -- K12 At count 1023: HLT gives 1; NOP then HLT gives 10.
     row (bytes 0 (0x00 ∷ []) ∷ count 1023 ∷ []) run (gives (1 ∷ [])) [] ∷
     row (bytes 0 (0x01 ∷ 0x00 ∷ []) ∷ count 1023 ∷ []) run (gives (10 ∷ 1024 ∷ [])) [] ∷
+    -- K13 `A:`, `LDI R0 1`, `B:`, `.DB 1 2 3`, `C:` give 0, 3, 6.
+    row [] (map ("A:" ∷ "LDI R0 1" ∷ "B:" ∷ ".DB 1 2 3" ∷ "C:" ∷ [])) (gives (0 ∷ 3 ∷ 6 ∷ [])) [] ∷
     []
 
 abbrev machine : List ℕ → List ℕ → ℕ → ℕ → ℕ → Bool → ℕ → ℕ → Machine
@@ -116,16 +123,26 @@ held (limit v) m = m .limit ∷ []
 abbrev alone : Machine → Situation
 alone m = situated m 0 [] 0
 
+abbrev sourceOf : List String → List ℕ
+sourceOf [] = []
+sourceOf (line ∷ lines) = codes line ++ lineEnd ++ sourceOf lines
+
+-- in the table's order; a refused source has none
+abbrev addressesOf : Labels → List ℕ
+addressesOf t = take (t .count) (t .addresses)
+
 -- the answer of what is done with a machine, and the machine that it leaves
 abbrev pub answerOf : Deed → Machine → List ℕ
 answerOf step m = stepOf [] (alone m) .answer
 answerOf run m = runOf [] (alone m) .answer
 answerOf (load vs a) m = loadOf m vs a .answer
+answerOf (map lines) m = addressesOf (mappingOf (sourceOf lines) .labels)
 
 abbrev pub machineOf : Deed → Machine → Machine
 machineOf step m = stepOf [] (alone m) .after .machine
 machineOf run m = runOf [] (alone m) .after .machine
 machineOf (load vs a) m = loadOf m vs a .machine
+machineOf (map lines) m = m
 
 -- the test of a row
 abbrev pub every : {A : Type 0} → (A → Bool) → List A → Bool

@@ -1,0 +1,4 @@
+pub mod TableLaws
+pub mod PassLaws
+pub mod NumberLaws
+pub mod InsideLaws

@@ -1,0 +1,5 @@
+pub mod Table
+pub mod Pass
+pub mod Numbers
+pub mod Verdict
+pub mod Inside

@@ -1,0 +1,4 @@
+pub mod AnswerLaws
+pub mod RoomLaws
+mod WalkLaws
+mod LaidLaws

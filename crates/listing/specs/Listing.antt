@@ -1,0 +1,40 @@
+-- "Listing of a program at a start address": its lines one after the other, and what a lent buffer then holds.
+use Prim.Native.Nat.{ℕ, zero, suc, _+_, _-_}
+use mathlib.Core.Bool.{cond}
+use mathlib.Core.List.{List, [], _∷_, _++_}
+use lib.Dec.{ltb}
+use lib.ListN.{length, drop}
+use Rattle.listing.specs.Front.{frontOf, sizeOf}
+use Rattle.listing.specs.Line.{lineOf}
+
+-- the lines of the bytes from an address on; the first so many bytes belong to a line that is there already
+unfoldable pub linesFrom : ℕ → ℕ → List ℕ → List ℕ
+linesFrom listed address [] = []
+linesFrom (suc listed) address (b ∷ bs) = linesFrom listed (address + 1) bs
+linesFrom zero address (b ∷ bs) =
+    lineOf address (frontOf (b ∷ bs)) ++ linesFrom (sizeOf (frontOf (b ∷ bs)) - 1) (address + 1) bs
+
+abbrev pub listed : List ℕ → ℕ → List ℕ
+listed program start = linesFrom 0 start program
+
+-- the paper's number and its values, and the buffer afterwards
+pub record Listing : Type 0 where
+  pub answer : List ℕ
+  pub buffer : List ℕ
+
+abbrev pub told : List ℕ → List ℕ → Listing
+told answer buffer = record { answer = answer; buffer = buffer }
+
+-- "14 writes nothing, an accepted text only its own bytes"
+abbrev pub written : List ℕ → List ℕ → Listing
+written text buffer =
+    cond (ltb (length buffer) (length text))
+    (told (14 ∷ length text ∷ []) buffer)
+    (told (0 ∷ length text ∷ []) (text ++ drop (length text) buffer))
+
+-- "11: start + length above 256", with length and start; "11 precedes 14"
+unfoldable pub listingOf : List ℕ → ℕ → List ℕ → Listing
+listingOf program start buffer =
+    cond (ltb 256 (start + length program))
+    (told (11 ∷ length program ∷ start ∷ []) buffer)
+    (written (listed program start) buffer)

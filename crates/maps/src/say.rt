@@ -1,0 +1,53 @@
+// What maps prints.
+ghost use Prim.Native.Nat.{_≤_};
+use labels::pass::MapAnswer;
+use labels::pass::Mapped;
+use labels::table::Labels;
+use labels::verdict::verdict;
+use libc::STDOUT_FILENO;
+use text::line::Line;
+
+pub fn unread(i: usize) {
+    let said = Line::empty()
+        .text(b"not read: argument ")
+        .decimal(i)
+        .text(b"\n");
+    line(said);
+}
+
+pub fn mapped(mapped: Mapped)
+    requires { ⌜ mapped .labels .count ≤ 64 ⌝ }
+{
+    let answer = mapped.answer;
+    match answer {
+        MapAnswer::Done => labels(mapped.labels),
+        MapAnswer::Refused(refusal) => line(verdict(refusal)),
+    }
+}
+
+fn labels(labels: Labels)
+    requires { ⌜ labels .count ≤ 64 ⌝ }
+{
+    let count = labels.count;
+    let places = labels.places;
+    let lengths = labels.lengths;
+    let addresses = labels.addresses;
+    io::write_all(STDOUT_FILENO, b"mapped");
+    let mut i: usize = 0;
+    while i < count {
+        label(places[i], lengths[i], addresses[i]);
+        i += 1;
+    }
+    io::write_all(STDOUT_FILENO, b"\n");
+}
+
+fn label(place: u16, length: u16, address: u8) {
+    let begun = Line::empty().text(b" ").decimal(place as usize);
+    let longer = begun.text(b" ").decimal(length as usize);
+    line(longer.text(b" ").decimal(address as usize));
+}
+
+fn line(line: Line) {
+    let bytes = line.bytes;
+    files::write(STDOUT_FILENO, &bytes, line.length);
+}
