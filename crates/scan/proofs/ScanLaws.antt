@@ -1,16 +1,19 @@
 -- What each turn of a scan does, from either end.
-use mathlib.Core.Path.{_≡_, refl}
+use mathlib.Core.Path.{_≡_, refl, sym, _∙_}
 use mathlib.Core.Bool.{Bool, true, false, cond}
 use mathlib.Core.List.{List, [], _∷_}
+use mathlib.Core.Logic.{_⊎_, inl, inr, ⊎-elim}
 use Prim.Native.Nat.{ℕ, zero, suc, _+_, _-_, _≤_, _<_}
 use native.Mathlib.Nat.{not-suc-le-zero}
 use native.Mathlib.Numerals.{add-one}
 use native.Mathlib.Omega.{arith}
+use borrow.Author.Tests.{le-leb, lt-leb, le-ltb, lt-ltb}
+use lib.Dec.{ltb, leb}
 use lib.ListN.{length, getD, take, drop, drop-of-length-le}
 use lib.Seq.{drop-cons}
 use Rattle.scan.specs.declared.class.Class.{Class}
 use Rattle.scan.specs.Class.{passes}
-use Rattle.scan.specs.Scan.{first, behind, last}
+use Rattle.scan.specs.Scan.{first, behind, last, count}
 
 -- from the front, at place i
 pub first-end : (c : Class) (text : List ℕ) (i : ℕ) → length text ≤ i → i + first c (drop i text) ≡ i
@@ -74,3 +77,44 @@ last-within c (b ∷ bs) = at (last c bs) refl (passes c b) (last-within c bs)
     at zero e true h = omega arith
     at zero e false h = omega arith
     at (suc n) e here h = omega arith
+
+-- none of the class; one, which is the first and the last; or two and more, and the last stands behind the first
+abbrev Spread : ℕ → ℕ → ℕ → Type 0
+Spread f n k = ((k ≡ 0) × (n ≡ 0)) ⊎ (((k ≡ 1) × (n ≡ f + 1)) ⊎ ((2 ≤ k) × (f + 1 < n)))
+
+spread-on :
+    (here : Bool) (f n k : ℕ) → Spread f n k → Spread (cond here 0 (suc f)) (behind here n) (cond here 1 0 + k)
+spread-on true f zero k s =
+    ⊎-elim (λ e. inr (inl (omega (arith, e .0), omega arith))) (⊎-elim (λ e. absurd (omega (arith, e .1))) (λ e. absurd (omega (arith, e .1)))) s
+spread-on true f (suc n) k s =
+    ⊎-elim
+    (λ e. absurd (omega (arith, e .1)))
+    (⊎-elim (λ e. inr (inr (omega (arith, e .0), omega arith))) (λ e. inr (inr (omega (arith, e .0), omega arith))))
+    s
+spread-on false f zero k s =
+    ⊎-elim (λ e. inl (omega (arith, e .0), refl)) (⊎-elim (λ e. absurd (omega (arith, e .1))) (λ e. absurd (omega (arith, e .1)))) s
+spread-on false f (suc n) k s =
+    ⊎-elim
+    (λ e. absurd (omega (arith, e .1)))
+    (⊎-elim
+    (λ e. inr (inl (omega (arith, e .0), omega (arith, e .1))))
+    (λ e. inr (inr (omega (arith, e .0), omega (arith, e .1)))))
+    s
+
+spread : (c : Class) (text : List ℕ) → Spread (first c text) (last c text) (count c text)
+unfolding first last count
+spread c [] = inl (refl, refl)
+spread c (b ∷ bs) = spread-on (passes c b) (first c bs) (last c bs) (count c bs) (spread c bs)
+
+-- there are two just where the last stands behind the first
+pub two-apart : (c : Class) (text : List ℕ) → leb 2 (count c text) ≡ ltb (first c text) (last c text - 1)
+two-apart c text = by (first c text) (last c text) (count c text) (spread c text)
+  where
+    by : (f n k : ℕ) → Spread f n k → leb 2 k ≡ ltb f (n - 1)
+    by f n k s =
+        ⊎-elim
+        (λ e. lt-leb 2 k (omega (arith, e .0)) ∙ sym (le-ltb f (n - 1) (omega (arith, e .1))))
+        (⊎-elim
+        (λ e. lt-leb 2 k (omega (arith, e .0)) ∙ sym (le-ltb f (n - 1) (omega (arith, e .1))))
+        (λ e. le-leb 2 k (e .0) ∙ sym (lt-ltb f (n - 1) (omega (arith, e .1)))))
+        s

@@ -1,5 +1,5 @@
 -- Where bytes of a class stand in a text. Both are places to cut at: before the first, and behind the last.
-use Prim.Native.Nat.{ℕ, zero, suc}
+use Prim.Native.Nat.{ℕ, zero, suc, _+_}
 use mathlib.Core.Bool.{Bool, cond}
 use mathlib.Core.List.{List, [], _∷_}
 use lib.Dec.{ltb}
@@ -24,3 +24,8 @@ last c (b ∷ bs) = behind (passes c b) (last c bs)
 
 abbrev pub some : Class → List ℕ → Bool
 some c text = ltb (first c text) (length text)
+
+-- how many bytes are of the class
+unfoldable pub count : Class → List ℕ → ℕ
+count c [] = 0
+count c (b ∷ bs) = cond (passes c b) 1 0 + count c bs

@@ -2,11 +2,11 @@
 use Prim.Native.Nat.{ℕ, _+_, _-_}
 use mathlib.Core.Bool.{Bool, not, cond, _&&_, _||_}
 use mathlib.Core.List.{List}
-use lib.Dec.{eqb, ltb}
+use lib.Dec.{eqb, leb}
 use lib.ListN.{length}
 use Rattle.text.specs.Text.{codes}
 use Rattle.scan.specs.declared.class.Class.the-variants.{Is, IsNot, Blank}
-use Rattle.scan.specs.Scan.{first, last, some}
+use Rattle.scan.specs.Scan.{first, last, some, count}
 use Rattle.op.specs.declared.operation.Lookup.{Lookup}
 use Rattle.op.specs.declared.operation.Lookup.the-variants.{Found, Unknown}
 use Rattle.op.specs.Names.{named, sameText}
@@ -22,7 +22,7 @@ isEmpty line = eqb (length line) 0
 abbrev pub isConstant : List ℕ → Bool
 isConstant line = sameText (firstWord line) (codes ".CONST")
 
--- "a label ends in `:`, has no blank and some byte besides colons"; `:` is 0x3A
+-- "a label ends in `:`, has no blank and some byte besides colons": its last colon is its last byte; `:` is 0x3A
 abbrev pub isLabel : List ℕ → Bool
 isLabel line = eqb (last (Is 0x3a) line) (length line) && not (some Blank line) && some (IsNot 0x3a) line
 
@@ -30,10 +30,9 @@ isLabel line = eqb (last (Is 0x3a) line) (length line) && not (some Blank line) 
 abbrev pub between : List ℕ → ℕ
 between line = last (Is 0x22) line - 1 - (first (Is 0x22) line + 1)
 
--- "add the bytes between first and last quote, plus 1"; there are two quotes where the last stands behind the first
+-- "add the bytes between first and last quote, plus 1"; "`.STRING` with fewer than two quotes" is 16
 abbrev pub stringOf : List ℕ → Meaning
-stringOf line =
-    cond (ltb (first (Is 0x22) line) (last (Is 0x22) line - 1)) (Bytes (between line + 1)) ShortString
+stringOf line = cond (leb 2 (count (Is 0x22) line)) (Bytes (between line + 1)) ShortString
 
 -- "Otherwise the first word is an operation: add its length."
 abbrev pub operationOf : Lookup → Meaning
