@@ -1,26 +1,22 @@
 -- A step prints one byte at most, where the number written stands, and only where there is room; a run is steps.
-use mathlib.Core.Path.{_≡_, refl, sym, _∙_, ap}
-use mathlib.Core.Bool.{Bool, true, false}
-use mathlib.Core.List.{List, []}
+use mathlib.Core.Path.{_≡_, refl, _∙_}
+use mathlib.Core.Bool.{true}
+use mathlib.Core.List.{List}
 use mathlib.Core.Logic.{_⊎_, inl, inr, _≢_}
-use Prim.Native.Nat.{ℕ, zero, suc, _+_, _≤_, _<_}
+use Prim.Native.Nat.{ℕ, _+_, _≤_, _<_}
 use native.Mathlib.Omega.{arith}
-use lib.Dec.{eqb}
 use lib.ListN.{length, length-set}
 use lib.Seq.{getD-set-other}
 use borrow.Author.Tests.{ltb-true}
-use Rattle.effect.specs.declared.Effect.{Effect}
 use Rattle.effect.specs.declared.Write.{Write}
 use Rattle.effect.specs.declared.Write.the-variants.{Nothing, Register, Memory, Output}
-use Rattle.effect.specs.Effects.{Fate, done, halt, refused, prints}
-use Rattle.turn.specs.Turn.{turnOf}
+use Rattle.effect.specs.Effects.{prints}
 use Rattle.turn.proofs.Laws.{prints-room}
-use Rattle.nanocore.specs.Machine.{mostCount}
 use Rattle.nanocore.specs.Run.{runOf}
-use Rattle.nanocore.specs.Step.{Situation, Answered, viewOf, outputAfter, writtenAfter, counted, settled, unhalted, stepOf}
+use Rattle.nanocore.specs.Step.{Situation, viewOf, outputAfter, writtenAfter, stepOf}
 use Rattle.steps.specs.Output.{Printed, PrintedTo}
-use Rattle.steps.specs.Trace.{afterSteps, Ended}
-use Rattle.steps.proofs.Trace.{ran}
+use Rattle.steps.proofs.Outcome.{by-outcome}
+use Rattle.steps.proofs.Trace.{run-keeps}
 
 same : (n : ℕ) (out : List ℕ) → Printed n out n out
 same n out = record { more = omega arith; inside = λ h. h; size = refl; kept = λ i h. refl }
@@ -61,43 +57,18 @@ by-write (Output v) n out room =
       kept = λ i h. getD-set-other out n i v 0 (elsewhere n i h);
     }
 
-module _ (input : List ℕ) (s : Situation) where
-  by-count : (b : Bool) (e : Effect) → turnOf (viewOf input s) ≡ done e → PrintedTo s (counted b e s .after)
-  by-count true e t = same (s .written) (s .output)
-  by-count false e t =
-      by-write (e .write) (s .written) (s .output) (λ p. ltb-true _ _ (prints-room (viewOf input s) e t p))
-
-  by-fate : (f : Fate) → turnOf (viewOf input s) ≡ f → PrintedTo s (settled f s .after)
-  by-fate (refused n) t = same (s .written) (s .output)
-  by-fate halt t = same (s .written) (s .output)
-  by-fate (done e) t = by-count (eqb (s .machine .count) mostCount) e t
-
-  by-halted : (b : Bool) → PrintedTo s (unhalted b (turnOf (viewOf input s)) s .after)
-  by-halted true = same (s .written) (s .output)
-  by-halted false = by-fate (turnOf (viewOf input s)) refl
-
-  pub step-printed : PrintedTo s (stepOf input s .after)
-  unfolding stepOf
-  step-printed = by-halted (s .machine .halted)
-
-steps-printed : (n : ℕ) (input : List ℕ) (s : Situation) → PrintedTo s (afterSteps n input s)
-steps-printed zero input s = same (s .written) (s .output)
-steps-printed (suc n) input s =
-    let t = stepOf input s .after in
-    let u = afterSteps n input t in
-    then (s .written) (t .written) (u .written) (s .output) (t .output) (u .output) (step-printed input s) (steps-printed n input t)
-
-end-printed : (input : List ℕ) (s : Situation) (r : Answered) → Ended input s r → PrintedTo s (r .after)
-end-printed input s r (Ended.halted h) = same (s .written) (s .output)
-end-printed input s r (Ended.limit h b) = same (s .written) (s .output)
-end-printed input s r (Ended.step h b o) = step-printed input s
+pub step-printed : (input : List ℕ) (s : Situation) → PrintedTo s (stepOf input s .after)
+step-printed input s =
+    by-outcome (λ r. PrintedTo s (r .after)) input s
+    (λ number above. same (s .written) (s .output))
+    (λ t. same (s .written) (s .output))
+    (λ e t. by-write (e .write) (s .written) (s .output) (λ p. ltb-true _ _ (prints-room (viewOf input s) e t p)))
 
 -- whatever the run ended for
 pub run-printed : (input : List ℕ) (s : Situation) → PrintedTo s (runOf input s .after)
 run-printed input s =
-    let r = ran input s in
-    let t = afterSteps (r .steps) input s in
-    let u = runOf input s .after in
-    then (s .written) (t .written) (u .written) (s .output) (t .output) (u .output)
-    (steps-printed (r .steps) input s)
-    (end-printed input t (runOf input s) (r .ended))
+    run-keeps (PrintedTo s) input
+    (λ t so.
+    let u = stepOf input t .after in
+    then (s .written) (t .written) (u .written) (s .output) (t .output) (u .output) so (step-printed input t))
+    s (same (s .written) (s .output))

@@ -181,3 +181,24 @@ pub run-plain : (input : List ℕ) (s : Situation) → s .machine .limit ≤ mos
 run-plain input s l =
     let r = ran input s in
     plain-end input (afterSteps (r .steps) input s) (runOf input s) (rw (r .limitKept) l) (r .ended)
+
+-- n steps and one more are n + 1
+pub one-more : (n : ℕ) (input : List ℕ) (s : Situation) → afterSteps (suc n) input s ≡ stepOf input (afterSteps n input s) .after
+one-more zero input s = refl
+one-more (suc n) input s = one-more n input (stepOf input s .after)
+
+-- what a step keeps, so many steps keep, and a run, whatever it ended for
+module _ (P : Situation → Type 0) (input : List ℕ) (keeps : (s : Situation) → P s → P (stepOf input s .after)) where
+  pub steps-keep : (n : ℕ) (s : Situation) → P s → P (afterSteps n input s)
+  steps-keep zero s h = h
+  steps-keep (suc n) s h = steps-keep n (stepOf input s .after) (keeps s h)
+
+  end-keeps : (s : Situation) (r : Answered) → Ended input s r → P s → P (r .after)
+  end-keeps s r (Ended.halted e) h = h
+  end-keeps s r (Ended.limit e b) h = h
+  end-keeps s r (Ended.step e b o) h = keeps s h
+
+  pub run-keeps : (s : Situation) → P s → P (runOf input s .after)
+  run-keeps s h =
+      let r = ran input s in
+      end-keeps (afterSteps (r .steps) input s) (runOf input s) (r .ended) (steps-keep (r .steps) s h)

@@ -1,8 +1,10 @@
 -- A run is stepping until it ends. The steps are those of the definition, one after the other, and their number is told by their answers alone.
 use Prim.Native.Nat.{ℕ, zero, suc, _+_, _≤_, _<_}
 use mathlib.Core.Path.{_≡_}
-use mathlib.Core.Bool.{true, false}
+use mathlib.Core.Bool.{Bool, true, false}
 use mathlib.Core.List.{List, [], _∷_}
+use lib.Dec.{leb}
+use Rattle.effect.specs.Numbers.{numberOf}
 use Rattle.nanocore.specs.Step.{Situation, Answered, refusedAt, stepOf}
 use Rattle.nanocore.specs.Run.{onward}
 
@@ -10,6 +12,16 @@ use Rattle.nanocore.specs.Run.{onward}
 abbrev pub afterSteps : ℕ → List ℕ → Situation → Situation
 afterSteps zero input s = s
 afterSteps (suc n) input s = afterSteps n input (stepOf input s .after)
+
+-- "0: stepped", "1: halted: a step that executed HLT": the step completed
+abbrev pub completed : List ℕ → Bool
+completed answer = leb (numberOf answer) 1
+
+-- so many completed steps, HLT among them, and where they lead
+pub record Reached (input : List ℕ) (s t : Situation) : Type 0 where
+  pub steps : ℕ
+  pub each : (i : ℕ) → i < steps → completed (stepOf input (afterSteps i input s) .answer) ≡ true
+  pub there : t ≡ afterSteps steps input s
 
 -- how a run ends where it stands: on a halted machine; at the limit; by a step that does not answer 0
 pub data Ended (input : List ℕ) (s : Situation) : Answered → Type 0 where

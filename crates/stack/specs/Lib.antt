@@ -1,0 +1,5 @@
+pub mod Event
+pub mod Stack
+pub mod Demand3
+pub mod Callers
+pub mod Examples
