@@ -19,7 +19,7 @@ use Rattle.scan.specs.Scan.{first, last}
 use Rattle.source.specs.Line.{linesOf, lineOf}
 use Rattle.source.specs.Words.{wordsIn}
 use Rattle.source.specs.Meaning.{meaningOf}
-use Rattle.labels.specs.Table.{alike, foundFrom}
+use Rattle.table.specs.Table.{alike, foundFrom}
 use Rattle.labels.specs.Pass.{labelled, turn, pass, mappingOf}
 use Rattle.cases.specs.Cases.{Part, gives, Row, rows, started, said, held, answerOf, machineOf, every, fits, holds}
 

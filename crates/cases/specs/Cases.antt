@@ -6,7 +6,7 @@ use mathlib.Core.List.{List, [], _∷_, _++_}
 use lib.ListN.{length, getD, take, drop, set}
 use Rattle.text.specs.Text.{codes, lineEnd}
 use Rattle.op.specs.Names.{sameText}
-use Rattle.labels.specs.declared.table.Labels.{Labels}
+use Rattle.table.specs.declared.labels.Labels.{Labels}
 use Rattle.labels.specs.Pass.{mappingOf}
 use Rattle.nanocore.specs.declared.machine.Machine.{Machine}
 use Rattle.nanocore.specs.Load.{laid, loadOf}

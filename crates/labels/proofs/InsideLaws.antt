@@ -16,8 +16,8 @@ use Rattle.source.specs.declared.meaning.Meaning.{Meaning}
 use Rattle.source.specs.declared.meaning.Meaning.the-variants.{Nothing, Bytes, Label, ShortString, NoOperation}
 use Rattle.source.specs.Meaning.{meaningOf}
 use Rattle.source.specs.Line.{linesOf, onFirst, lineOf, trimmed, cut}
-use Rattle.labels.specs.declared.table.Labels.{Labels}
-use Rattle.labels.specs.Table.{noLabels, readdressed, withLabel, found}
+use Rattle.table.specs.declared.labels.Labels.{Labels}
+use Rattle.table.specs.Table.{noLabels, readdressed, withLabel, found}
 use Rattle.labels.specs.Pass.{Progress, goes, refused, recorded, labelled, after, turn, pass, told, ended, passed, mappingOf}
 use Rattle.labels.specs.Inside.{Inside}
 

@@ -1,4 +1,3 @@
-pub mod TableLaws
 pub mod PassLaws
 pub mod NumberLaws
 pub mod InsideLaws

@@ -9,7 +9,7 @@ use Rattle.scan.specs.declared.class.Class.the-variants.{Is}
 use Rattle.scan.specs.Scan.{first}
 use Rattle.source.specs.Line.{linesOf}
 use Rattle.source.proofs.LineLaws.{first-line}
-use Rattle.labels.specs.declared.table.Labels.{Labels}
+use Rattle.table.specs.declared.labels.Labels.{Labels}
 use Rattle.labels.specs.Pass.{Progress, goes, refused, turn, pass}
 
 -- a refused line ends the pass

@@ -2,7 +2,7 @@
 use Prim.Native.Nat.{ℕ, _+_, _<_, _≤_}
 use mathlib.Core.List.{List}
 use lib.ListN.{length, getD}
-use Rattle.labels.specs.declared.table.Labels.{Labels}
+use Rattle.table.specs.declared.labels.Labels.{Labels}
 
 unfoldable pub Inside : List ℕ → Labels → Type 0
 Inside source t =

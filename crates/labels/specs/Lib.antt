@@ -1,4 +1,3 @@
-pub mod Table
 pub mod Pass
 pub mod Numbers
 pub mod Verdict

@@ -10,8 +10,8 @@ use Rattle.source.specs.declared.meaning.Meaning.{Meaning}
 use Rattle.source.specs.declared.meaning.Meaning.the-variants.{Nothing, Bytes, Label, ShortString, NoOperation}
 use Rattle.source.specs.Line.{lineOf, linesOf}
 use Rattle.source.specs.Meaning.{meaningOf}
-use Rattle.labels.specs.declared.table.Labels.{Labels}
-use Rattle.labels.specs.Table.{noLabels, found, readdressed, withLabel}
+use Rattle.table.specs.declared.labels.Labels.{Labels}
+use Rattle.table.specs.Table.{noLabels, found, readdressed, withLabel}
 
 -- the pass goes on with an address and the labels found so far, or a line was refused: the paper's number and its values
 pub data Progress : Type 0 where

@@ -1,9 +1,5 @@
 // The address pass: the labels of a source and their addresses.
 
-// The table of labels.
-pub mod table;
-// Its entries.
-mod entry;
 // One line of the source, and the pass over all.
 pub mod pass;
 // A refused source in words.

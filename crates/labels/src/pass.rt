@@ -4,13 +4,9 @@ ghost use mathlib.Core.Path.{_≡_};
 ghost use lib.ListN.{length, drop};
 ghost use Rattle.scan.specs.declared.class.Class.the-variants.{Is};
 ghost use Rattle.scan.specs.Scan.{first as Scan·first};
+ghost use Rattle.table.specs.Table.{noLabels};
 ghost use Rattle.labels.specs.Numbers.{mapping, progress, refusalNumber};
 ghost use Rattle.labels.specs.Pass.{ended, goes, labelled as Pass·labelled, mappingOf, passed, refused as Pass·refused, told, turn as Pass·turn};
-ghost use Rattle.labels.specs.Table.{noLabels};
-use crate::entry::add;
-use crate::entry::found;
-use crate::entry::readdress;
-use crate::table::Labels;
 use scan::class::Class;
 use scan::scan::first;
 use scan::scan::last;
@@ -18,6 +14,10 @@ use scan::scan::some;
 use source::line::line;
 use source::meaning::Meaning;
 use std::num::wrapping_add_u8;
+use table::entry::add;
+use table::entry::found;
+use table::entry::readdress;
+use table::labels::Labels;
 
 // A longer source is refused.
 const MOST: usize = 16384;

@@ -1,4 +1,2 @@
-pub mod Front
-pub mod Line
 pub mod Listing
 pub mod Numbers

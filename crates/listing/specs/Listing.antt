@@ -4,8 +4,8 @@ use mathlib.Core.Bool.{cond}
 use mathlib.Core.List.{List, [], _∷_, _++_}
 use lib.Dec.{ltb}
 use lib.ListN.{length, drop}
-use Rattle.listing.specs.Front.{frontOf, sizeOf}
-use Rattle.listing.specs.Line.{lineOf}
+use Rattle.row.specs.Front.{frontOf, sizeOf}
+use Rattle.row.specs.Line.{lineOf}
 
 -- the lines of the bytes from an address on; the first so many bytes belong to a line that is there already
 unfoldable pub linesFrom : ℕ → ℕ → List ℕ → List ℕ

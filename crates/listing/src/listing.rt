@@ -5,8 +5,8 @@ ghost use mathlib.Core.Path.{_≡_};
 ghost use lib.ListN.{length, drop};
 ghost use Rattle.listing.specs.Listing.{listed, listingOf, told};
 ghost use Rattle.listing.specs.Numbers.{listNumber};
-use crate::row::Row;
 use fields::lay::lay;
+use row::row::Row;
 
 // The length of the text, or why there is none: the program's length and its start, or the room that the text needs.
 pub enum ListAnswer {

@@ -2,9 +2,9 @@
 ghost use Prim.Native.Nat.{_≤_};
 use labels::pass::MapAnswer;
 use labels::pass::Mapped;
-use labels::table::Labels;
 use labels::verdict::verdict;
 use libc::STDOUT_FILENO;
+use table::labels::Labels;
 use text::line::Line;
 
 pub fn unread(i: usize) {

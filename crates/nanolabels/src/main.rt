@@ -7,8 +7,8 @@ mod say;
 
 use labels::pass::MapAnswer;
 use labels::pass::map_labels;
-use labels::table::Labels;
 use libc::STDIN_FILENO;
+use table::labels::Labels;
 
 // The buffer holds far more than a source may have, so what does not fit is refused, whatever follows.
 fn main() {

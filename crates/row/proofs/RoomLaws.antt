@@ -1,0 +1,80 @@
+-- What has room: each line of a listing on a Line, whatever its operands.
+use mathlib.Core.Path.{_≡_, ap}
+use mathlib.Core.Bool.{Bool, true, false, cond}
+use mathlib.Core.List.{List, [], _∷_, _++_}
+use Prim.Native.Nat.{ℕ, zero, suc, _/_, _≤_}
+use native.Mathlib.Omega.{arith}
+use lib.Dec.{eqb}
+use lib.ListN.{length, length-append, take, take-append-drop, replicate}
+use Rattle.op.proofs.NameLaws.{name-short}
+use Rattle.op.specs.Names.{nameOf}
+use Rattle.instruction.specs.declared.operands.Operands.{Operands}
+use Rattle.instruction.specs.declared.operands.Operands.the-variants.{None, Reg, RegImm, RegReg, RegAddr, Addr}
+use Rattle.text.specs.declared.line.Line.{Line}
+use Rattle.text.specs.Decimal.{decimal, digitsOf, lastDigit}
+use Rattle.text.specs.Lines.{lined}
+use Rattle.text.specs.Text.{lineEnd}
+use Rattle.text.proofs.LineLaws.{appended-length, holds}
+use Rattle.row.specs.declared.front.Front.{Front}
+use Rattle.row.specs.declared.front.Front.the-variants.{Whole, Alone}
+use Rattle.row.specs.Line.{byteText, registerText, then, operandsText, wordsOf, lineOf}
+
+-- a digit more behind the others, or none
+one-more : (none : Bool) (digits : List ℕ) (d k : ℕ) → length digits ≤ k → length (cond none [] (digits ++ (d ∷ []))) ≤ suc k
+one-more true digits d k h = omega arith
+one-more false digits d k h = omega (arith, length-append digits (d ∷ []))
+
+digits-few : (k n : ℕ) → length (digitsOf k n) ≤ k
+unfolding digitsOf
+digits-few zero n = omega arith
+digits-few (suc k) n = one-more (eqb n 0) (digitsOf k (n / 10)) (lastDigit n) k (digits-few k (n / 10))
+
+-- a decimal number has at most twenty digits
+register-few : (r : ℕ) → length (then (registerText r)) ≤ 22
+unfolding decimal
+register-few r = omega (arith, length-append (digitsOf 19 (r / 10)) (lastDigit r ∷ []), digits-few 19 (r / 10))
+
+-- a register, and a word that is no longer than one
+and-word : (r : ℕ) (word : List ℕ) → length word ≤ 22 → length (then (registerText r) ++ word) ≤ 44
+and-word r word h = omega (arith, length-append (then (registerText r)) word, register-few r)
+
+operands-few : (a : Operands) → length (operandsText a) ≤ 44
+operands-few None = omega arith
+operands-few (Reg r) = omega (arith, register-few r)
+operands-few (RegImm r v) = and-word r (then (byteText v)) (omega arith)
+operands-few (RegReg d s) = and-word d (then (registerText s)) (register-few s)
+operands-few (RegAddr r a) = and-word r (then (byteText a)) (omega arith)
+operands-few (Addr a) = omega arith
+
+words-few : (front : Front) → length (wordsOf front) ≤ 50
+words-few (Whole o a) = omega (arith, length-append (then (nameOf o)) (operandsText a), name-short o, operands-few a)
+words-few (Alone byte) = omega arith
+
+pub line-short : (address : ℕ) (front : Front) → length (lineOf address front) ≤ 64
+unfolding lineOf
+line-short address front =
+    omega (
+      arith,
+      length-append (byteText address ++ wordsOf front) lineEnd,
+      length-append (byteText address) (wordsOf front),
+      words-few front,
+    )
+
+module _ (address : ℕ) (front : Front) {line : Line} (e : line ≡ lined (lineOf address front)) where
+  line-length : line .length ≡ length (lineOf address front)
+  line-length =
+      let short = line-short address front in
+      rw e (omega (arith, appended-length (replicate 64 0) (lineOf address front) 0 (omega arith)))
+
+  pub line-fits : line .length ≤ 64
+  line-fits = omega (arith, line-length, line-short address front)
+
+  pub line-whole : take (line .length) (line .bytes) ≡ lineOf address front
+  line-whole = rw e (holds (lineOf address front) (line-short address front))
+
+  pub line-taken : line .length ≡ length (take (line .length) (line .bytes))
+  line-taken = rw line-whole line-length
+
+  pub line-within : line .length ≤ length (line .bytes)
+  line-within =
+      omega (arith, line-taken, simp length-append at (ap length (take-append-drop (line .length) (line .bytes))))

@@ -1,0 +1,43 @@
+-- "each line is address, name and operands parted by one space, then LF; registers R0..R15, bytes as 0x and two upper-case digits. The line is
+-- made from the decoded operands."
+use Prim.Native.Nat.{ℕ, _+_, _-_, _/_, _%_}
+use mathlib.Core.Bool.{cond}
+use mathlib.Core.List.{List, [], _∷_, _++_}
+use lib.Dec.{ltb}
+use Rattle.text.specs.Decimal.{decimal}
+use Rattle.text.specs.Text.{codes, lineEnd}
+use Rattle.op.specs.Names.{nameOf}
+use Rattle.instruction.specs.declared.operands.Operands.{Operands}
+use Rattle.instruction.specs.declared.operands.Operands.the-variants.{None, Reg, RegImm, RegReg, RegAddr, Addr}
+use Rattle.row.specs.declared.front.Front.{Front}
+use Rattle.row.specs.declared.front.Front.the-variants.{Whole, Alone}
+
+-- an upper-case digit: 0 to 9, then A to F
+abbrev pub digit : ℕ → ℕ
+digit d = cond (ltb d 10) (48 + d) (65 + (d - 10))
+
+abbrev pub byteText : ℕ → List ℕ
+byteText b = codes "0x" ++ (digit (b / 16) ∷ digit (b % 16) ∷ [])
+
+abbrev pub registerText : ℕ → List ℕ
+registerText r = codes "R" ++ decimal r
+
+-- a word behind a space
+abbrev pub then : List ℕ → List ℕ
+then word = codes " " ++ word
+
+abbrev pub operandsText : Operands → List ℕ
+operandsText None = []
+operandsText (Reg r) = then (registerText r)
+operandsText (RegImm r v) = then (registerText r) ++ then (byteText v)
+operandsText (RegReg d s) = then (registerText d) ++ then (registerText s)
+operandsText (RegAddr r a) = then (registerText r) ++ then (byteText a)
+operandsText (Addr a) = then (byteText a)
+
+-- name and operands, or `.DB` and the byte
+abbrev pub wordsOf : Front → List ℕ
+wordsOf (Whole o a) = then (nameOf o) ++ operandsText a
+wordsOf (Alone byte) = then (codes ".DB") ++ then (byteText byte)
+
+unfoldable pub lineOf : ℕ → Front → List ℕ
+lineOf address front = byteText address ++ wordsOf front ++ lineEnd
