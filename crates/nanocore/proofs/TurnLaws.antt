@@ -1,5 +1,5 @@
 -- What so many turns come to, by what the first of them comes to.
-use mathlib.Core.Path.{_≡_, refl, _∙_}
+use mathlib.Core.Path.{_≡_, refl, sym, _∙_, ap}
 use mathlib.Core.Bool.{false}
 use mathlib.Core.List.{List, [], _∷_}
 use Prim.Native.Nat.{ℕ, zero, suc, _-_, _<_, _≤_}
@@ -19,11 +19,11 @@ use Rattle.effect.specs.declared.Fault.the-variants.{
   NoInput,
   NoRoom,
 }
-use Rattle.effect.specs.Effects.{done, halt, refused}
-use Rattle.effect.specs.Numbers.{faultNumber}
+use Rattle.effect.specs.declared.Turn.{Turn}
+use Rattle.effect.specs.Numbers.{fate, faultNumber}
 use Rattle.turn.specs.Turn.{turnOf}
 use Rattle.nanocore.specs.Machine.{mostCount}
-use Rattle.nanocore.specs.Step.{Situation, viewOf, registersAfter, applied, haltedAt, refusedAt, settled}
+use Rattle.nanocore.specs.Step.{Situation, Answered, viewOf, registersAfter, applied, haltedAt, refusedAt, settled}
 use Rattle.nanocore.specs.Run.{onward, then}
 use Rattle.nanocore.specs.Turns.{turnsOf}
 
@@ -57,16 +57,19 @@ module _ (input : List ℕ) (s : Situation) where
   turns-none zero h = refl
   turns-none (suc k) h = absurd (not-suc-le-zero h)
 
-  module _ (k : ℕ) (some : 0 < k) where
-    pub turns-refused : (n : List ℕ) → turnOf (viewOf input s) ≡ refused n → onward n ≡ false → turnsOf k input s ≡ refusedAt n s
-    turns-refused n e stops = first k some ∙ rw (e, stops)
+-- From here the turns that are left come to t, and the next of them is r: what r tells is what t is.
+module _ (input : List ℕ) (s : Situation) (k : ℕ) {t : Answered} (all : turnsOf k input s ≡ t) (some : 0 < k)
+    (r : Turn) (next : fate r ≡ turnOf (viewOf input s)) where
+  pub turns-refused : (f : Fault) → r ≡ Turn.Refused f → refusedAt (faultNumber f) s ≡ t
+  turns-refused f e =
+      let stops = ap (λ b. then b (refusedAt (faultNumber f) s) (turnsOf (k - 1) input)) (fault-stops f) in
+      sym (first input s k some ∙ rw (sym next, e) stops) ∙ all
 
-    pub turns-halted : turnOf (viewOf input s) ≡ halt → turnsOf k input s ≡ record { answer = 1 ∷ []; after = haltedAt s }
-    turns-halted e = first k some ∙ rw e
+  pub turns-halted : r ≡ Turn.Halt → record { answer = 1 ∷ []; after = haltedAt s } ≡ t
+  turns-halted e = sym (first input s k some ∙ rw (sym next, e)) ∙ all
 
-    pub turns-full : (a : Effect) → turnOf (viewOf input s) ≡ done a → s .machine .count ≡ mostCount → turnsOf k input s ≡ refusedAt (9 ∷ []) s
-    turns-full a e full = first k some ∙ rw (e, eq-eqb _ _ full)
+  pub turns-full : (a : Effect) → r ≡ Turn.Done a → s .machine .count ≡ mostCount → refusedAt (9 ∷ []) s ≡ t
+  turns-full a e full = sym (first input s k some ∙ rw (sym next, e, eq-eqb _ _ full)) ∙ all
 
-    pub turns-done : (a : Effect) → turnOf (viewOf input s) ≡ done a → (s .machine .count ≡ mostCount → ⊥) →
-        turnsOf k input s ≡ turnsOf (k - 1) input (applied a s)
-    turns-done a e below = first k some ∙ rw (e, ne-eqb _ _ below)
+  pub turns-done : (a : Effect) → r ≡ Turn.Done a → (s .machine .count ≡ mostCount → ⊥) → turnsOf (k - 1) input (applied a s) ≡ t
+  turns-done a e below = sym (first input s k some ∙ rw (sym next, e, ne-eqb _ _ below)) ∙ all

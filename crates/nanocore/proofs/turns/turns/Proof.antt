@@ -5,6 +5,7 @@ use mathlib.Core.List.{List}
 use Prim.Native.Nat.{ℕ}
 use borrow.Author.Needs.{needs}
 use borrow.Author.Tests.{ltb-true}
+use denote.Ref.{now}
 use lib.ListN.{length}
 use Rattle.effect.specs.declared.core.Core.{Core}
 use Rattle.effect.specs.Numbers.{fate}
@@ -14,7 +15,7 @@ use Rattle.nanocore.specs.declared.turns.Tally.{Tally}
 use Rattle.nanocore.specs.Numbers.{stepping}
 use Rattle.nanocore.specs.Step.{Situation}
 use Rattle.nanocore.specs.Turns.{endedWith, turnsOf}
-use Rattle.nanocore.proofs.TurnLaws.{length-registers, fault-stops, turns-none, turns-refused, turns-halted, turns-full, turns-done}
+use Rattle.nanocore.proofs.TurnLaws.{length-registers, turns-none, turns-refused, turns-halted, turns-full, turns-done}
 use Rattle.nanocore.proofs.turns.turns.Statement.{statement}
 use Rattle.nanocore.proofs.turns.turns.Tie as tie
 
@@ -52,9 +53,10 @@ returns c =
     let f = c .before .before .fault .given in
     let turned = c .before .before .before .before in
     let looped = turned .before .before .before .before in
-    rw (c .ended .ensures)
-    (sym (turns-refused _ _ _ (looped .loop-test .taken) _ (sym (turned .turn .ensures) ∙ ap fate (f .1)) (fault-stops (f .0 .0)))
-    ∙ looped .before .loop .inv .2)
+    let at = looped .before .loop in
+    let input = now (looped .before .before .before .before .before .before .args .input) in
+    let s = here (at .registers) (at .memory) (at .core) (at .tally) (at .output) in
+    rw (c .ended .ensures) (turns-refused input s (at .left) (at .inv .2) (looped .loop-test .taken) _ (turned .turn .ensures) _ (f .1))
 
 enum-told : tie.Need-enum-told Inv-loop μ-loop
 enum-told c = search needs
@@ -69,9 +71,11 @@ returns-2 : tie.Need-returns-2 Inv-loop μ-loop
 returns-2 c =
     let turned = c .before .before .before in
     let looped = turned .before .before .before .before in
+    let at = looped .before .loop in
+    let input = now (looped .before .before .before .before .before .before .args .input) in
+    let s = here (at .registers) (at .memory) (at .core) (at .tally) (at .output) in
     rw (c .ended2 .ensures)
-    (sym (turns-halted _ _ _ (looped .loop-test .taken) (sym (turned .turn .ensures) ∙ ap fate (c .before .enum-told .given .1)))
-    ∙ looped .before .loop .inv .2)
+    (turns-halted input s (at .left) (at .inv .2) (looped .loop-test .taken) _ (turned .turn .ensures) (c .before .enum-told .given .1))
 
 enum-known-effect : tie.Need-enum-known-effect Inv-loop μ-loop
 enum-known-effect c = search needs
@@ -86,9 +90,11 @@ returns-3 : tie.Need-returns-3 Inv-loop μ-loop
 returns-3 c =
     let turned = c .before .before .before .before .before .before in
     let looped = turned .before .before .before .before in
+    let at = looped .before .loop in
+    let input = now (looped .before .before .before .before .before .before .args .input) in
+    let s = here (at .registers) (at .memory) (at .core) (at .tally) (at .output) in
     rw (c .ended3 .ensures)
-    (sym (turns-full _ _ _ (looped .loop-test .taken) _ (sym (turned .turn .ensures) ∙ ap fate (c .before .before .before .before .effect .given .1)) (c .before .if1 .taken))
-    ∙ looped .before .loop .inv .2)
+    (turns-full input s (at .left) (at .inv .2) (looped .loop-test .taken) _ (turned .turn .ensures) _ (c .before .before .before .before .effect .given .1) (c .before .if1 .taken))
 
 write-register-requires : tie.Need-write-register-requires Inv-loop μ-loop
 write-register-requires c κs = c .before .before .before .before .before .before .before .before .before .before .before .loop .inv .1
@@ -117,12 +123,14 @@ loop-again c =
     let counted = registered .before .before in
     let done = counted .before .before .before in
     let turned = done .before .before in
-    let looped = turned .before .before .before .before in (
+    let looped = turned .before .before .before .before in
+    let at = looped .before .loop in
+    let input = now (looped .before .before .before .before .before .before .args .input) in
+    let s = here (at .registers) (at .memory) (at .core) (at .tally) (at .output) in (
       search needs,
-      rw (registered .write-register .ensures) (length-registers (done .effect .given .0 .0 .write) (looped .before .loop .registers) ∙ looped .before .loop .inv .1),
+      rw (registered .write-register .ensures) (length-registers (done .effect .given .0 .0 .write) (at .registers) ∙ at .inv .1),
       rw (registered .write-register .ensures, written .write-memory .ensures, printed .write-output .ensures .0, printed .write-output .ensures .1)
-          (sym (turns-done _ _ _ (looped .loop-test .taken) _ (sym (turned .turn .ensures) ∙ ap fate (done .effect .given .1)) (counted .if1 .left))
-          ∙ looped .before .loop .inv .2),
+          (turns-done input s (at .left) (at .inv .2) (looped .loop-test .taken) _ (turned .turn .ensures) _ (done .effect .given .1) (counted .if1 .left)),
     )
 
 ended-requires-4 : tie.Need-ended-requires-4 Inv-loop μ-loop
