@@ -6,8 +6,8 @@ use mathlib.Core.Logic.{⊎-elim}
 use Prim.Native.Nat.{ℕ}
 use Rattle.byte.specs.Flags.{zn, withCarry}
 use Rattle.effect.specs.Effects.{kept, loaded, flagged, jumped, pushed}
-use Rattle.op.specs.Names.{named, sameText}
-use Rattle.op.proofs.NameLaws.{sameText-eq}
+use Rattle.names.specs.Names.{named, sameText}
+use Rattle.names.proofs.NameLaws.{sameText-eq}
 use Rattle.instruction.specs.Decode.{decodedOf}
 use Rattle.turn.specs.Meaning.{fateOf}
 use Rattle.turn.specs.Turn.{turnOf}

@@ -5,7 +5,7 @@ use Prim.Native.String.{String}
 use mathlib.Core.List.{List, [], _∷_, _++_}
 use lib.ListN.{length, getD, take, drop, set}
 use Rattle.text.specs.Text.{codes, lineEnd}
-use Rattle.op.specs.Names.{sameText}
+use Rattle.names.specs.Names.{sameText}
 use Rattle.table.specs.declared.labels.Labels.{Labels}
 use Rattle.labels.specs.Pass.{mappingOf}
 use Rattle.nanocore.specs.declared.machine.Machine.{Machine}

@@ -6,7 +6,7 @@ use mathlib.Core.List.{List, [], _∷_}
 use Prim.Native.Nat.{ℕ, _+_, _*_, _/_, _%_, _<_}
 use native.Mathlib.Omega.{arith}
 use borrow.Author.Tests.{eqb-true, eq-eqb, leb-true, le-leb}
-use lib.Dec.{leb}
+use lib.Dec.{eqb, leb}
 use lib.ListN.{getD}
 use Rattle.byte.proofs.Inverse.{undone}
 use Rattle.op.specs.declared.form.Form.{Form}
@@ -14,7 +14,6 @@ use Rattle.op.specs.declared.operation.Op.{Op}
 use Rattle.op.specs.declared.operation.Lookup.{Lookup}
 use Rattle.op.specs.declared.operation.Lookup.the-variants.{Found, Unknown}
 use Rattle.op.specs.Operations.{decoded, formOf}
-use Rattle.op.specs.Names.{sameText}
 use Rattle.op.proofs.Laws.{decoded-byte}
 use Rattle.instruction.specs.declared.operands.Operands.{Operands}
 use Rattle.instruction.specs.declared.operands.Operands.the-variants.{None, Reg, RegImm, RegReg, RegAddr, Addr}
@@ -144,10 +143,11 @@ decoding-injective (Invalid b) (Instruction p a) e = cc
 decoding-injective (Invalid b) (Invalid c) e = cc
 
 -- the answer that has this number
+abbrev isOf : List ℕ → EncodeAnswer → Bool
+isOf number r = eqb (getD number 0 0) (getD (encodeNumber r) 0 0)
+
 abbrev answerOf : List ℕ → EncodeAnswer
-answerOf number =
-    cond (sameText number (encodeNumber Done)) Done
-    (cond (sameText number (encodeNumber OtherForm)) OtherForm NoSuchRegister)
+answerOf number = cond (isOf number Done) Done (cond (isOf number OtherForm) OtherForm NoSuchRegister)
 
 answerOf-number : (r : EncodeAnswer) → answerOf (encodeNumber r) ≡ r
 answerOf-number Done = refl

@@ -9,7 +9,7 @@ use Rattle.digits.specs.declared.unhex.Unhexed.the-variants.{Bytes, Stopped}
 use Rattle.digits.specs.Unhex as Unhex
 use Rattle.digits.specs.Unhex.{unhexed}
 use Rattle.fields.specs.Read.{part}
-use Rattle.op.specs.Names.{sameText}
+use Rattle.names.specs.Names.{sameText}
 use Rattle.text.specs.Text.{codes}
 use Rattle.answers.specs.declared.answer.Kind.{Kind}
 use Rattle.lines.specs.declared.line.Line.{Line}

@@ -9,7 +9,7 @@ use Rattle.fields.specs.Read.{byteAt, part}
 use Rattle.op.specs.declared.operation.Lookup.{Lookup}
 use Rattle.op.specs.declared.operation.Lookup.the-variants.{Found, Unknown}
 use Rattle.op.specs.Operations.{byteOf, decoded, formOf, lengthOf}
-use Rattle.op.specs.Names.{nameOf, named, spelled}
+use Rattle.names.specs.Names.{nameOf, named, spelled}
 use Rattle.compare.specs.declared.verdict.Part.the-variants.{Number}
 use Rattle.compare.specs.declared.verdict.Verdict.{Verdict}
 use Rattle.compare.specs.declared.verdict.Verdict.the-variants.{Torn}

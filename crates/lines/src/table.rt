@@ -5,6 +5,8 @@ use compare::verdict::Part;
 use compare::verdict::Verdict;
 use compare::verdict::parted;
 use fields::read::byte_at;
+use names::name::Name;
+use names::name::from_name;
 use nanocore::machine::Machine;
 use op::operation::Lookup;
 use op::operation::Op;
@@ -49,7 +51,7 @@ fn opcode_answer(value: u8) -> [u8; 9]
 {
     match Op::decode(value) {
         Lookup::Found(op) => {
-            let name = op.name();
+            let name = Name::of(op);
             let text = name.bytes;
             [
                 1,
@@ -70,7 +72,7 @@ fn opcode_answer(value: u8) -> [u8; 9]
 fn name_answer(text: &[u8]) -> [u8; 2]
     ensures { λ r. ⌜ r ≡ nameAnswer (now (text .entry)) ⌝ }
 {
-    match Op::from_name(text) {
+    match from_name(text) {
         Lookup::Found(op) => [1, op.byte()],
         Lookup::Unknown => [0; 2],
     }

@@ -51,7 +51,7 @@ pub enum Lookup {
     Unknown,
 }
 
-pub const OPS: [Op; 40] = [
+const OPS: [Op; 40] = [
     Op::HLT,
     Op::NOP,
     Op::LDI,

@@ -6,8 +6,8 @@ use Prim.Native.Nat.{ℕ, zero, suc, _/_, _≤_}
 use native.Mathlib.Omega.{arith}
 use lib.Dec.{eqb}
 use lib.ListN.{length, length-append, take, take-append-drop, replicate}
-use Rattle.op.proofs.NameLaws.{name-short}
-use Rattle.op.specs.Names.{nameOf}
+use Rattle.names.proofs.NameLaws.{name-short}
+use Rattle.names.specs.Names.{nameOf}
 use Rattle.instruction.specs.declared.operands.Operands.{Operands}
 use Rattle.instruction.specs.declared.operands.Operands.the-variants.{None, Reg, RegImm, RegReg, RegAddr, Addr}
 use Rattle.text.specs.declared.line.Line.{Line}

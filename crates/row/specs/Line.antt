@@ -6,7 +6,7 @@ use mathlib.Core.List.{List, [], _∷_, _++_}
 use lib.Dec.{ltb}
 use Rattle.text.specs.Decimal.{decimal}
 use Rattle.text.specs.Text.{codes, lineEnd}
-use Rattle.op.specs.Names.{nameOf}
+use Rattle.names.specs.Names.{nameOf}
 use Rattle.instruction.specs.declared.operands.Operands.{Operands}
 use Rattle.instruction.specs.declared.operands.Operands.the-variants.{None, Reg, RegImm, RegReg, RegAddr, Addr}
 use Rattle.row.specs.declared.front.Front.{Front}

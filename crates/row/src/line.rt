@@ -1,11 +1,12 @@
 // A line of the listing.
 ghost use Prim.Native.Nat.{_<_};
 ghost use mathlib.Core.Path.{_≡_};
-ghost use Rattle.op.specs.Names.{nameOf};
+ghost use Rattle.names.specs.Names.{nameOf};
 ghost use Rattle.text.specs.Lines.{appended, lined};
 ghost use Rattle.row.specs.Line.{byteText, digit as Line·digit, lineOf, operandsText, registerText, then, wordsOf};
 use crate::front::Front;
 use instruction::operands::Operands;
+use names::name::Name;
 use op::operation::Op;
 use text::line::Line;
 
@@ -31,7 +32,7 @@ fn words(line: Line, front: Front) -> Line
 fn name(line: Line, op: Op) -> Line
     ensures { λ r. ⌜ r ≡ appended line (then (nameOf op)) ⌝ }
 {
-    let name = op.name();
+    let name = Name::of(op);
     let bytes = name.bytes;
     let length = name.length;
     line.text(b" ").text(&bytes[..length])

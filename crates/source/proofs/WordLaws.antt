@@ -12,7 +12,7 @@ use lib.Seq.{drop-cons}
 use borrow.Author.Tests.{eqb-true}
 use Rattle.text.specs.Text.{codes}
 use Rattle.scan.specs.Class.{blank}
-use Rattle.op.specs.Names.{sameText}
+use Rattle.names.specs.Names.{sameText}
 use Rattle.source.specs.Words.{begun, wordsIn, words, starts}
 
 -- at place i of a line

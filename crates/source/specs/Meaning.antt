@@ -9,7 +9,7 @@ use Rattle.scan.specs.declared.class.Class.the-variants.{Is, IsNot, Blank}
 use Rattle.scan.specs.Scan.{first, last, some, count}
 use Rattle.op.specs.declared.operation.Lookup.{Lookup}
 use Rattle.op.specs.declared.operation.Lookup.the-variants.{Found, Unknown}
-use Rattle.op.specs.Names.{named, sameText}
+use Rattle.names.specs.Names.{named, sameText}
 use Rattle.op.specs.Operations.{formOf, lengthOf}
 use Rattle.source.specs.declared.meaning.Meaning.{Meaning}
 use Rattle.source.specs.declared.meaning.Meaning.the-variants.{Nothing, Bytes, Label, ShortString, NoOperation}

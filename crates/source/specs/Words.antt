@@ -6,7 +6,7 @@ use lib.ListN.{length, take}
 use Rattle.scan.specs.declared.class.Class.the-variants.{Blank}
 use Rattle.scan.specs.Class.{blank}
 use Rattle.scan.specs.Scan.{first}
-use Rattle.op.specs.Names.{sameText}
+use Rattle.names.specs.Names.{sameText}
 
 -- 1 where a word begins at a byte: one that is no blank, and does not go on with a word
 abbrev pub begun : Bool → ℕ → ℕ

@@ -1,13 +1,13 @@
 // What a line means to the address pass.
 ghost use mathlib.Core.Path.{_≡_};
 ghost use Rattle.source.specs.Meaning.{isConstant, isLabel, meaningOf, operationOf, stringOf};
-ghost use Rattle.op.specs.Names.{named};
+ghost use Rattle.names.specs.Names.{named};
 ghost use Rattle.source.specs.Words.{firstWord};
 use crate::word::first_word_is;
 use crate::word::starts_with;
 use crate::word::words;
+use names::name::from_name;
 use op::operation::Lookup;
-use op::operation::Op;
 use scan::class::Class;
 use scan::scan::first;
 use scan::scan::last;
@@ -80,7 +80,7 @@ fn operation(line: &[u8]) -> Meaning
     ensures { λ r. ⌜ r ≡ operationOf (named (firstWord (now (line .entry)))) ⌝ }
 {
     let end = first(Class::Blank, line);
-    match Op::from_name(&line[..end]) {
+    match from_name(&line[..end]) {
         Lookup::Found(op) => Meaning::Bytes(op.instruction_len() as usize),
         Lookup::Unknown => Meaning::NoOperation,
     }

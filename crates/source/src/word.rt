@@ -1,6 +1,6 @@
 // Words, and how a line begins.
 ghost use mathlib.Core.Path.{_≡_};
-ghost use Rattle.op.specs.Names.{sameText};
+ghost use Rattle.names.specs.Names.{sameText};
 ghost use Rattle.source.specs.Words.{begun as Words·begun, firstWord, starts, words as Words·words};
 use scan::class::Class;
 use scan::scan::first;

@@ -1,5 +1,5 @@
 -- Each word is compared in turn, as the definition does.
-use Rattle.op.proofs.NameLaws.{same-text}
+use Rattle.names.proofs.NameLaws.{same-text}
 use Rattle.lines.specs.Line.{wordOf}
 use borrow.Author.Needs.{needs}
 use Rattle.lines.proofs.line.first_word.Statement.{statement}

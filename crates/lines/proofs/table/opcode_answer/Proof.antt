@@ -1,6 +1,6 @@
 -- What is found is told, and no name is longer than five bytes.
-use Rattle.op.proofs.NameLaws.{name-short}
-use Rattle.op.specs.Names.{nameOf}
+use Rattle.names.proofs.NameLaws.{name-short}
+use Rattle.names.specs.Names.{nameOf}
 use Rattle.lines.specs.Table.{operationTold}
 use lib.ListN.{length}
 use mathlib.Core.Path.{_∙_, sym, ap}
@@ -15,8 +15,8 @@ decode-requires c κs = search needs
 enum-known-op : tie.Need-enum-known-op
 enum-known-op c = search needs
 
-name-requires : tie.Need-name-requires
-name-requires c κs = search needs
+of-requires : tie.Need-of-requires
+of-requires c κs = search needs
 
 byte-requires : tie.Need-byte-requires
 byte-requires c κs = search needs
@@ -25,7 +25,7 @@ instruction-len-requires : tie.Need-instruction-len-requires
 instruction-len-requires c κs = search needs
 
 cast-t9 : tie.Need-cast-t9
-cast-t9 c = rw (c .before .before .before .before .name .ensures) (omega (arith, name-short (c .before .before .before .before .before .before .op .given .0 .0)))
+cast-t9 c = rw (c .before .before .before .before .of .ensures) (omega (arith, name-short (c .before .before .before .before .before .before .op .given .0 .0)))
 
 array-read-t12 : tie.Need-array-read-t12
 array-read-t12 c = search needs
@@ -46,7 +46,7 @@ enum-told : tie.Need-enum-told
 enum-told c = search needs
 
 returns : tie.Need-returns
-returns c = rw (c .before .instruction-len .ensures, c .before .before .byte .ensures, c .before .before .before .before .name .ensures) (sym (ap operationTold (sym (c .before .before .before .before .before .before .before .before .decode .ensures) ∙ c .before .before .before .before .before .before .op .given .1)))
+returns c = rw (c .before .instruction-len .ensures, c .before .before .byte .ensures, c .before .before .before .before .of .ensures) (sym (ap operationTold (sym (c .before .before .before .before .before .before .before .before .decode .ensures) ∙ c .before .before .before .before .before .before .op .given .1)))
 
 returns-2 : tie.Need-returns-2
 returns-2 c = sym (ap operationTold (sym (c .before .before .decode .ensures) ∙ c .enum-told .given .1))
@@ -57,7 +57,7 @@ opcode-answer-spec =
     (tie.spec
     decode-requires
     enum-known-op
-    name-requires
+    of-requires
     byte-requires
     instruction-len-requires
     cast-t9

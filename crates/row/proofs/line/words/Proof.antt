@@ -1,7 +1,7 @@
 -- The enum's case picks the definition's; the second piece is put behind the first.
 use mathlib.Core.Path.{sym, _∙_, ap}
 use borrow.Author.Needs.{needs}
-use Rattle.op.specs.Names.{nameOf}
+use Rattle.names.specs.Names.{nameOf}
 use Rattle.text.specs.Lines.{appended}
 use Rattle.text.specs.Text.{codes}
 use Rattle.text.proofs.LineLaws.{onto}

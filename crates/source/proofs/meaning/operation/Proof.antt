@@ -3,7 +3,7 @@ use mathlib.Core.Path.{_≡_, sym, _∙_}
 use denote.Ref.{now}
 use lib.ListN.{take}
 use lib.Seq.{length-take-le}
-use Rattle.op.specs.Names.{named}
+use Rattle.names.specs.Names.{named}
 use borrow.Author.Needs.{needs}
 use Rattle.source.proofs.meaning.operation.Statement.{statement}
 use Rattle.source.proofs.meaning.operation.Tie as tie

@@ -3,8 +3,8 @@ use mathlib.Core.Path.{sym, _∙_, ap}
 use denote.Ref.{now}
 use lib.ListN.{take}
 use lib.Seq.{length-take-le}
-use Rattle.op.specs.Names.{sameText}
-use Rattle.op.proofs.NameLaws.{same-text}
+use Rattle.names.specs.Names.{sameText}
+use Rattle.names.proofs.NameLaws.{same-text}
 use borrow.Author.Needs.{needs}
 use Rattle.source.proofs.word.first_word_is.Statement.{statement}
 use Rattle.source.proofs.word.first_word_is.Tie as tie

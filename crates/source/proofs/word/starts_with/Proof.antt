@@ -2,7 +2,7 @@
 use mathlib.Core.Path.{sym}
 use denote.Ref.{now}
 use lib.Seq.{length-take-le}
-use Rattle.op.proofs.NameLaws.{same-text}
+use Rattle.names.proofs.NameLaws.{same-text}
 use Rattle.source.proofs.WordLaws.{starts-short}
 use borrow.Author.Needs.{needs}
 use Rattle.source.proofs.word.starts_with.Statement.{statement}

@@ -5,11 +5,11 @@ use mathlib.Core.List.{List, [], _∷_}
 use lib.Dec.{eqb}
 use lib.ListN.{length, getD}
 use Rattle.text.specs.Text.{codes}
-use Rattle.op.specs.declared.name.Name.{Name}
+use Rattle.names.specs.declared.name.Name.{Name}
 use Rattle.op.specs.declared.operation.Op.{Op}
 use Rattle.op.specs.declared.operation.Lookup.{Lookup}
 use Rattle.op.specs.declared.operation.Lookup.the-variants.{Found, Unknown}
 use Rattle.op.specs.Operations.{rowOf, ops}
 
 abbrev pub nameOf : Op → List ℕ
 nameOf o = codes (rowOf o .name)

@@ -1,9 +1,8 @@
 // The names of the operations: upper case and exact, written and read.
 ghost use mathlib.Core.Path.{_≡_};
-ghost use Rattle.op.specs.Names.{nameOf, spelled, sameText, named};
-use crate::operation::Lookup;
-use crate::operation::OPS;
-use crate::operation::Op;
+ghost use Rattle.names.specs.Names.{nameOf, spelled, sameText, named};
+use op::operation::Lookup;
+use op::operation::Op;
 
 // A name by value: its bytes, 0 past its length.
 pub struct Name {
@@ -98,40 +97,42 @@ const LENGTHS: [usize; 40] = [
     3,
 ];
 
-impl Op {
-    pub fn name(self) -> Name
-        ensures { λ r. ⌜ r ≡ spelled (nameOf self) ⌝ }
+impl Name {
+    pub fn of(op: Op) -> Name
+        ensures { λ r. ⌜ r ≡ spelled (nameOf op) ⌝ }
     {
-        let b = self.byte() as usize;
+        let b = op.byte() as usize;
         let bytes = NAMES[b];
         Name {
             bytes: bytes,
             length: LENGTHS[b],
         }
     }
+}
 
-    // Whether a text is this operation's name.
-    fn is_named(self, text: &[u8]) -> bool
-        ensures { λ r. ⌜ r ≡ sameText (now (text .entry)) (nameOf self) ⌝ }
-    {
-        let name = self.name();
-        let bytes = name.bytes;
-        let length = name.length;
-        check::same(text, &bytes[..length])
-    }
-
-    // The operation that has this name, upper case and exact, or none.
-    pub fn from_name(text: &[u8]) -> Lookup
-        ensures { λ r. ⌜ r ≡ named (now (text .entry)) ⌝ }
-    {
-        let mut k: usize = 0;
-        while k < 40 {
-            let op = OPS[k];
-            if op.is_named(text) {
-                return Lookup::Found(op);
-            }
-            k += 1;
+// The operation that has this name, upper case and exact, or none: the forty are tried in the order of their bytes.
+pub fn from_name(text: &[u8]) -> Lookup
+    ensures { λ r. ⌜ r ≡ named (now (text .entry)) ⌝ }
+{
+    let mut k: u8 = 0;
+    while k < 40 {
+        let Lookup::Found(op) = Op::decode(k) else {
+            return Lookup::Unknown;
+        };
+        if is_named(op, text) {
+            return Lookup::Found(op);
         }
-        Lookup::Unknown
+        k += 1;
     }
+    Lookup::Unknown
+}
+
+// Whether a text is this operation's name.
+fn is_named(op: Op, text: &[u8]) -> bool
+    ensures { λ r. ⌜ r ≡ sameText (now (text .entry)) (nameOf op) ⌝ }
+{
+    let name = Name::of(op);
+    let bytes = name.bytes;
+    let length = name.length;
+    check::same(text, &bytes[..length])
 }

@@ -3,18 +3,17 @@
 use mathlib.Core.Path.{_≡_, refl, sym, _∙_, ap}
 use mathlib.Core.Bool.{Bool, true, false, cond, and-eq-true-iff}
 use mathlib.Core.List.{List, [], _∷_}
-use Prim.Native.Nat.{ℕ, _+_, _≤_, _<_}
+use Prim.Native.Nat.{ℕ, zero, suc, _+_, _≤_}
 use native.Mathlib.Numerals.{add-one}
 use lib.Dec.{eqb, leb}
-use lib.ListN.{length, getD, take, drop}
-use lib.Seq.{drop-cons}
+use lib.ListN.{length, take, drop}
 use borrow.Author.Tests.{eqb-true, eq-eqb, leb-true}
 use Rattle.op.specs.declared.operation.Op.{Op}
 use Rattle.op.specs.declared.operation.Lookup.{Lookup}
-use Rattle.op.specs.declared.operation.Lookup.the-variants.{Found}
-use Rattle.op.specs.Operations.{ops}
-use Rattle.op.specs.Names.{nameOf, spelled, sameText, nameIn, named}
+use Rattle.op.specs.declared.operation.Lookup.the-variants.{Found, Unknown}
+use Rattle.op.specs.Operations.{ops, opAt, decoded}
+use Rattle.names.specs.Names.{nameOf, spelled, sameText, nameIn, named}
 use Rattle.op.proofs.Laws.{agree}
 
 pub sameText-refl : (s : List ℕ) → sameText s s ≡ true
 sameText-refl [] = refl
@@ -39,16 +38,31 @@ pub same-text : (r : Bool) (s t : List ℕ) → (r ≡ true → s ≡ t) → (s 
 same-text r s t f g =
     both-ways r (sameText s t) (λ e. rw (f e) (sameText-refl t)) (λ e. g (sameText-eq s t e))
 
--- a search through the list at its place k: found there, or looked for from the next place on
+-- the operations from the place k on: that of the byte k and those behind it, or none where the byte has none
+from-place : (os : List Op) (k : ℕ) (o : Op) → opAt os k ≡ Found o → drop k os ≡ o ∷ drop (suc k) os
+from-place [] k o e = cc
+from-place (p ∷ os) zero o e = cc
+from-place (p ∷ os) (suc k) o e = from-place os k o e
+
+none-from : (os : List Op) (k : ℕ) → opAt os k ≡ Unknown → drop k os ≡ []
+none-from [] zero e = refl
+none-from [] (suc k) e = refl
+none-from (p ∷ os) zero e = cc
+none-from (p ∷ os) (suc k) e = none-from os k e
+
+-- a search through the list at its place k: found there, or looked for from the next place on, or ended
 pub hit :
-    (os : List Op) (t : List ℕ) (k : ℕ) (d : Op) → k < length os → sameText t (nameOf (getD os k d)) ≡ true →
-    nameIn (drop k os) t ≡ Found (getD os k d)
-hit os t k d h e = rw (drop-cons os k d h, e)
+    (t : List ℕ) (k : ℕ) (o : Op) → decoded k ≡ Found o → sameText t (nameOf o) ≡ true →
+    nameIn (drop k ops) t ≡ Found o
+hit t k o at e = rw (from-place ops k o at, e)
 
 pub miss :
-    (os : List Op) (t : List ℕ) (k : ℕ) (d : Op) → k < length os → sameText t (nameOf (getD os k d)) ≡ false →
-    nameIn (drop k os) t ≡ nameIn (drop (k + 1) os) t
-miss os t k d h e = rw (add-one, drop-cons os k d h, e)
+    (t : List ℕ) (k : ℕ) (o : Op) → decoded k ≡ Found o → sameText t (nameOf o) ≡ false →
+    nameIn (drop k ops) t ≡ nameIn (drop (k + 1) ops) t
+miss t k o at e = rw (add-one, from-place ops k o at, e)
+
+pub ended : (t : List ℕ) (k : ℕ) → decoded k ≡ Unknown → nameIn (drop k ops) t ≡ Unknown
+ended t k at = rw (none-from ops k at)
 
 -- a name by value holds the name's bytes up to its length
 pub spelled-name : (o : Op) → take (length (nameOf o)) (spelled (nameOf o) .bytes) ≡ nameOf o
