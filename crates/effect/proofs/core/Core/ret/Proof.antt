@@ -6,7 +6,7 @@ use Rattle.effect.proofs.core.Core.ret.Statement.{statement}
 use Rattle.effect.proofs.core.Core.ret.Tie as tie
 
 returns : tie.Need-returns
-returns c = rw (eq-eqb _ _ (c .if1 .taken))
+returns c = rw (eq-eqb _ 0xff (c .if1 .taken))
 
 wrapping-add-u8-requires : tie.Need-wrapping-add-u8-requires
 wrapping-add-u8-requires c κs = search needs
@@ -26,7 +26,7 @@ jump-requires c κs = search needs
 returns-2 : tie.Need-returns-2
 returns-2 c =
     c .jump .ensures
-    ∙ rw (c .before .before .at-sp .ensures, c .before .before .before .wrapping-add-u8 .ensures, ne-eqb _ _ (c .before .before .before .before .if1 .left))
+    ∙ rw (c .before .before .at-sp .ensures, c .before .before .before .wrapping-add-u8 .ensures, ne-eqb _ 0xff (c .before .before .before .before .if1 .left))
 
 pub ret-spec : {M : Type 1} → statement M
 ret-spec =
