@@ -10,7 +10,10 @@ use lib.ListN.{length, getD, drop, length-drop}
 use Rattle.op.specs.declared.form.Form.{Form}
 use Rattle.op.specs.declared.operation.Op.{Op}
 use Rattle.op.specs.Operations.{formOf, lengthOf}
+use Rattle.fields.specs.Read.{byteAt}
+use Rattle.instruction.specs.declared.decode.Decoded.{Decoded}
 use Rattle.instruction.specs.declared.operands.Operands.{Operands}
+use Rattle.instruction.specs.Numbers.{decoding}
 use Rattle.instruction.specs.Decode.{Decoding, instruction, refused, decodedOf}
 use Rattle.row.specs.declared.front.Front.the-variants.{Whole, Alone}
 use Rattle.row.specs.Front.{frontBy, frontOf, sizeOf}
@@ -52,3 +55,10 @@ module _ (program : List ℕ) (at : ℕ) (h : at < length program) where
   goes-on next e =
       let within = size-within (drop at program) some-left in
       (omega (arith, within .0), omega (arith, within .1, length-drop at program))
+
+-- three bytes as they were read, and what they were decoded to, make the front
+pub front-read :
+    (bytes : List ℕ) (one two three : ℕ) (d : Decoded) → one ≡ byteAt bytes 0 → two ≡ byteAt bytes 1 → three ≡ byteAt bytes 2 →
+    decoding d ≡ decodedOf one two three → frontOf bytes ≡ frontBy (decoding d) one (length bytes)
+unfolding frontOf
+front-read bytes one two three d e f g h = rw (← e, ← f, ← g, ← h)

@@ -1,6 +1,9 @@
 -- The length is tested, and the rest is compared.
 use Rattle.lines.specs.Table.{nameVerdict}
 use borrow.Author.Tests.{eq-eqb, ne-eqb}
+use denote.Ref.{now}
+use Prim.Native.Nat.{_+_}
+use lib.ListN.{length}
 use mathlib.Core.Path.{_∙_}
 use borrow.Author.Needs.{needs}
 use Rattle.lines.proofs.table.name.Statement.{statement}
@@ -20,7 +23,9 @@ add-needed c = search needs
 
 returns : tie.Need-returns
 unfolding nameVerdict
-returns c = rw (← c .before .byte-at .ensures, ne-eqb _ _ (c .if1 .taken))
+returns c =
+    let case = now (c .before .before .before .args .case) in
+    rw (← c .before .byte-at .ensures, ne-eqb (length case) (1 + c .before .byte-at .result + 2) (c .if1 .taken))
 
 sub-name-answer : tie.Need-sub-name-answer
 sub-name-answer c = search needs

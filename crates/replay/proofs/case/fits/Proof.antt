@@ -31,7 +31,7 @@ word-at-requires-3 c κs = search needs
 
 returns-4 : tie.Need-returns-4
 unfolding fits
-returns-4 c = rw (← c .before .before .before .before .before .before .before .byte-at .ensures, le-leb _ _ (c .before .before .before .before .before .before .if1 .left), ← c .before .before .before .before .before .word-at .ensures .0, le-leb _ _ (c .before .before .before .before .if2 .left), ← c .before .before .before .word-at2 .ensures .0, le-leb _ _ (c .before .before .if3 .left), ← c .before .word-at3 .ensures .0, lt-leb _ _ (c .if4 .taken))
+returns-4 c = rw (← c .before .before .before .before .before .before .before .byte-at .ensures, le-leb _ _ (c .before .before .before .before .before .before .if1 .left), ← c .before .before .before .before .before .word-at .ensures .0, le-leb _ _ (c .before .before .before .before .if2 .left), ← c .before .before .before .word-at2 .ensures .0, le-leb _ _ (c .before .before .if3 .left), ← c .before .word-at3 .ensures .0, lt-leb (c .before .word-at3 .result) 4096 (c .if4 .taken))
 
 enum-told : tie.Need-enum-told
 enum-told c = search needs
