@@ -64,7 +64,8 @@ pub fn ask(
     }
 }
 
-fn of(number: Numbered, machine: Machine, place: usize, written: usize) -> Answer
+// All of it, from its parts.
+pub fn of(number: Numbered, machine: Machine, place: usize, written: usize) -> Answer
     ensures { λ r. ⌜ r ≡ answerBy number machine place written ⌝ }
 {
     let registers = machine.registers;

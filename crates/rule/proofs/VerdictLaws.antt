@@ -1,7 +1,7 @@
 -- No verdict is cut: with the values that the code's types hold, the text has room on a line.
 use mathlib.Core.Path.{_≡_}
-use mathlib.Core.List.{List, [], _∷_, _++_}
-use Prim.Native.Nat.{ℕ, suc, _+_, _^_, _≤_, _<_}
+use mathlib.Core.List.{List, [], _∷_}
+use Prim.Native.Nat.{ℕ, _≤_, _<_}
 use native.Mathlib.Omega.{arith}
 use lib.ListN.{length, length-append, take}
 use Rattle.effect.specs.declared.Fault.{Fault}
@@ -10,11 +10,11 @@ use Rattle.effect.specs.Numbers.{faultNumber}
 use Rattle.nanocore.specs.declared.answer.RunAnswer.{RunAnswer}
 use Rattle.nanocore.specs.declared.answer.RunAnswer.the-variants.{LimitReached}
 use Rattle.nanocore.specs.Numbers.{runNumber}
-use Rattle.text.specs.Decimal.{decimal}
 use Rattle.text.specs.Lines.{named, lined}
-use Rattle.text.specs.Text.{codes, lineEnd}
+use Rattle.text.specs.Text.{codes}
 use Rattle.text.proofs.DecimalLaws.{few-digits}
 use Rattle.text.proofs.LineLaws.{holds}
+use Rattle.text.proofs.PieceLaws.{ended-length, named-few}
 use Rattle.rule.specs.Verdict.{valueName, refusal, said, verdictOf, tooLong}
 
 -- opcode, pc and sp are bytes
@@ -31,10 +31,6 @@ abbrev pub InRange : RunAnswer → Type 0
 InRange RunAnswer.Halted = Unit
 InRange (RunAnswer.Refused f) = FaultInRange f
 InRange (LimitReached limit) = limit < 65536
-
-named-few : (name : List ℕ) (k n : ℕ) → n < 10 ^ suc k → length (named name n) ≤ 3 + length name + k
-named-few name k n h =
-    omega (arith, length-append (name ++ (32 ∷ [])) (decimal n), length-append name (32 ∷ []), few-digits k n h)
 
 refusal-few : (n : ℕ) → n < 100 → length (refusal n) ≤ 10
 refusal-few n h = omega (arith, few-digits 1 n h)
@@ -62,9 +58,6 @@ said-few : (a : RunAnswer) → InRange a → length (said (runNumber a)) ≤ 23
 said-few RunAnswer.Halted h = omega arith
 said-few (RunAnswer.Refused f) h = fault-few f h
 said-few (LimitReached limit) h = with-value 10 limit [] (omega arith) (omega arith) h
-
-ended-length : (a b c : List ℕ) → length (a ++ b ++ c ++ lineEnd) ≡ length a + length b + length c + 1
-ended-length a b c = omega (arith, length-append (a ++ b ++ c) lineEnd, length-append (a ++ b) c, length-append a b)
 
 module _ (a : RunAnswer) (count pc : ℕ) (h : InRange a) (hc : count < 65536) (hp : pc < 256) where
   pub verdict-fits : length (verdictOf (runNumber a) count pc) ≤ 64

@@ -61,5 +61,8 @@ ranBy (n ∷ length ∷ start ∷ vs) m input output = notRun length start outpu
 abbrev pub loadedRun : Loading → List ℕ → List ℕ → Ended
 loadedRun l input output = ranBy (l .answer) (l .machine) input output
 
+abbrev pub ruleLoaded : List ℕ → ℕ → Loading
+ruleLoaded rule limit = loadOf (limited fresh limit) rule 0
+
 unfoldable pub ruleOf : List ℕ → ℕ → List ℕ → List ℕ → Ended
-ruleOf rule limit input output = loadedRun (loadOf (limited fresh limit) rule 0) input output
+ruleOf rule limit input output = loadedRun (ruleLoaded rule limit) input output

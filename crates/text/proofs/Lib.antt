@@ -2,3 +2,4 @@ pub mod LineLaws
 pub mod NumberLaws
 pub mod DecimalLaws
 pub mod ReadBack
+pub mod PieceLaws

@@ -1,5 +1,6 @@
-// A rule that is run, and what it was to print.
+// A rule that is run, what it was to print, and whether lent steps take it to the same end.
 ghost use Rattle.io.specs.Counts.{Counts};
+use crate::lent;
 use crate::say;
 use fields::apart::alike;
 use files::Got;
@@ -16,22 +17,36 @@ pub fn run(rule: usize, input: usize, output: usize) {
     let a = read_argument(rule, &mut program);
     let b = read_argument(input, &mut readings);
     let c = read_argument(output, &mut expected);
-    let mut printed = io::large_buffer();
-    let ending = run_rule(
+    tell(
+        rule,
+        output,
         &program[..a.count],
-        LIMIT,
         &readings[..b.count],
-        &mut printed,
+        &expected,
+        c.count,
     );
+}
+
+fn tell(
+    rule: usize,
+    output: usize,
+    program: &[u8],
+    readings: &[u8],
+    expected: &[u8],
+    count: usize,
+) {
+    let mut printed = io::large_buffer();
+    let ending = run_rule(program, LIMIT, readings, &mut printed);
     say::argument(rule);
     say::text(b" printed ");
     say::number(ending.written);
-    if ending.written == c.count {
-        compared(alike(&printed, &expected), output);
+    if ending.written == count {
+        compared(alike(&printed, expected), output);
     } else {
         differs(output);
     }
     say::line(ending.verdict);
+    lent::compare(program, LIMIT, readings);
 }
 
 // What was not printed is 0 in both, so bytes that are alike to the end of the larger buffers are the same.

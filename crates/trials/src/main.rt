@@ -1,7 +1,8 @@
 // trials [RULE INPUT OUTPUT]..: prints the verdicts of many endings, then runs each rule with its input and says whether it prints what its output
-// has, and its verdict. The gate runs it on the examples.
+// has, its verdict, and whether lent steps leave machine, answer, place and output as the run does. The gate runs it on the examples.
 mod endings;
 mod example;
+mod lent;
 mod say;
 
 fn main() {

@@ -2,8 +2,8 @@
 use borrow.Author.Needs.{needs}
 use Rattle.text.specs.Lines.{named}
 use Rattle.text.specs.Text.{codes}
+use Rattle.text.proofs.PieceLaws.{closed}
 use Rattle.rule.specs.Verdict.{refusal, tooLong}
-use Rattle.rule.proofs.PieceLaws.{closed}
 use Rattle.rule.proofs.verdict.too_long.Statement.{statement}
 use Rattle.rule.proofs.verdict.too_long.Tie as tie
 

@@ -2,9 +2,9 @@
 use borrow.Author.Needs.{needs}
 use Rattle.text.specs.Lines.{named}
 use Rattle.text.specs.Text.{codes}
+use Rattle.text.proofs.PieceLaws.{closed}
 use Rattle.nanocore.specs.Numbers.{runNumber}
 use Rattle.rule.specs.Verdict.{said, verdictOf}
-use Rattle.rule.proofs.PieceLaws.{closed}
 use Rattle.rule.proofs.verdict.verdict.Statement.{statement}
 use Rattle.rule.proofs.verdict.verdict.Tie as tie
 

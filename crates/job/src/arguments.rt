@@ -8,27 +8,27 @@ use text::number::number;
 const LIMIT: u16 = 1024;
 
 // The path of the rule's file and its length, or 0 after it is said why there is none.
-pub fn rule(path: &mut [u8]) -> usize
+pub fn rule(program: &[u8], path: &mut [u8]) -> usize
     ensures { λ r. ⌜ Counts r (now (path .exit)) ⌝ }
 {
     let length = os::arg(1, path);
     if length == 0 {
         if os::errno() == libc::ENAMETOOLONG {
-            say::failed(b"RULE");
+            say::failed(program, b"RULE");
         } else {
-            say::usage();
+            say::usage(program);
         }
     }
     length
 }
 
 // A limit that is not there counts as empty.
-pub fn limit() -> Numeral {
+pub fn limit(program: &[u8]) -> Numeral {
     let mut text = io::buffer();
     let length = os::arg(2, &mut text);
     if length == 0 {
         if os::errno() == libc::ENAMETOOLONG {
-            say::no_limit(b"that");
+            say::no_limit(program, b"that");
             return Numeral::NoNumber;
         }
         return Numeral::Number(LIMIT);
@@ -36,7 +36,7 @@ pub fn limit() -> Numeral {
     let limit = number(&text[..length]);
     match limit {
         Numeral::Number(n) => {},
-        Numeral::NoNumber => say::no_limit(&text[..length]),
+        Numeral::NoNumber => say::no_limit(program, &text[..length]),
     }
     limit
 }

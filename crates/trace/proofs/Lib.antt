@@ -1,0 +1,4 @@
+pub mod LineLaws
+pub mod LookLaws
+pub mod NumberLaws
+mod LookCases
