@@ -1,3 +1,4 @@
+pub mod Agrees
 mod Behind
 mod Taken
 mod Walk

@@ -1,7 +1,7 @@
 // The rule from its file, the station's bytes from standard input.
 ghost use Prim.Native.Nat.{_≤_};
+ghost use mathlib.Core.Path.{_≡_};
 ghost use Rattle.io.specs.Counts.{Counts};
-ghost use Rattle.job.specs.Inside.{Inside};
 use crate::arguments;
 use crate::say;
 use files::Got;
@@ -9,55 +9,72 @@ use libc::STDIN_FILENO;
 use std::num::wrapping_add_usize;
 use text::number::Numeral;
 
-pub enum Rule {
-    // So many bytes at the buffer's start, and the limit.
-    Read { length: usize, limit: u16 },
-    // More bytes than the buffer has, and so more than a machine.
+pub enum Found {
+    Rule,
+    // So many bytes, more than the buffer has and so more than a machine.
     TooLong(usize),
     // It was said why there is none.
-    Missing,
+    Nothing,
 }
 
-pub fn read_rule(program: &[u8], buffer: &mut [u8]) -> Rule
-    ensures { λ r. ⌜ Inside r (now (buffer .exit)) ⌝ }
+// What was found; of a rule, how many bytes it has, at the buffer's start, and its limit.
+pub struct Job {
+    pub found: Found,
+    pub length: usize,
+    pub limit: u16,
+}
+
+pub fn read_rule(program: &[u8], buffer: &mut [u8]) -> Job
+    ensures { λ r. ⌜ Counts (r .length) (now (buffer .exit)) ⌝ }
 {
     let mut path = io::buffer();
     let length = arguments::rule(program, &mut path);
     if length == 0 {
-        return Rule::Missing;
+        return without(Found::Nothing);
     }
     match arguments::limit(program) {
         Numeral::Number(limit) => read_file(program, &path[..length], limit, buffer),
-        Numeral::NoNumber => Rule::Missing,
+        Numeral::NoNumber => without(Found::Nothing),
     }
 }
 
 // A rule that is longer than the buffer is read to its end, since the refusal has its length.
-fn read_file(program: &[u8], path: &[u8], limit: u16, buffer: &mut [u8]) -> Rule
-    ensures { λ r. ⌜ Inside r (now (buffer .exit)) ⌝ }
+fn read_file(program: &[u8], path: &[u8], limit: u16, buffer: &mut [u8]) -> Job
+    ensures { λ r. ⌜ Counts (r .length) (now (buffer .exit)) ⌝ }
 {
     let file = os::open_read(path);
     if file < 0 {
         say::failed(program, path);
-        return Rule::Missing;
+        return without(Found::Nothing);
     }
     let got = files::read(file, &mut *buffer);
     if got.failed {
         say::failed(program, path);
-        return Rule::Missing;
+        return without(Found::Nothing);
     }
     let rest = files::skip(file);
     if rest.failed {
         say::failed(program, path);
-        return Rule::Missing;
+        return without(Found::Nothing);
     }
     libc::close(file);
     if rest.count > 0 {
-        return Rule::TooLong(wrapping_add_usize(got.count, rest.count));
+        return without(Found::TooLong(wrapping_add_usize(got.count, rest.count)));
     }
-    Rule::Read {
+    Job {
+        found: Found::Rule,
         length: got.count,
         limit: limit,
+    }
+}
+
+fn without(found: Found) -> Job
+    ensures { λ r. ⌜ r .length ≡ 0 ⌝ }
+{
+    Job {
+        found: found,
+        length: 0,
+        limit: 0,
     }
 }
 

@@ -1,6 +1,6 @@
 // nanorun RULE [LIMIT]: runs the rule that the file RULE holds, with the station's bytes from standard input. Standard output gets exactly the bytes
 // that the rule printed, standard error one line: the verdict, or why there is none.
-use job::read::Rule;
+use job::read::Found;
 use job::read::read_input;
 use job::read::read_rule;
 use job::say::failed;
@@ -12,10 +12,12 @@ use text::line::Line;
 
 fn main() {
     let mut rule = io::large_buffer();
-    match read_rule(b"nanorun", &mut rule) {
-        Rule::Read { length, limit } => run(&rule[..length], limit),
-        Rule::TooLong(length) => say(too_long(length, 0)),
-        Rule::Missing => {},
+    let job = read_rule(b"nanorun", &mut rule);
+    let found = job.found;
+    match found {
+        Found::Rule => run(&rule[..job.length], job.limit),
+        Found::TooLong(length) => say(too_long(length, 0)),
+        Found::Nothing => {},
     }
 }
 

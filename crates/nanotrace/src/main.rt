@@ -2,7 +2,7 @@
 // Standard output gets a line after each completed step, and then the verdict. What the rule prints is not shown.
 mod say;
 
-use job::read::Rule;
+use job::read::Found;
 use job::read::read_input;
 use job::read::read_rule;
 use nanocore::answer::LoadAnswer;
@@ -16,10 +16,12 @@ use trace::look::look;
 
 fn main() {
     let mut rule = io::large_buffer();
-    match read_rule(b"nanotrace", &mut rule) {
-        Rule::Read { length, limit } => trace(&rule[..length], limit),
-        Rule::TooLong(length) => say::last(too_long(length, 0)),
-        Rule::Missing => {},
+    let job = read_rule(b"nanotrace", &mut rule);
+    let found = job.found;
+    match found {
+        Found::Rule => trace(&rule[..job.length], job.limit),
+        Found::TooLong(length) => say::last(too_long(length, 0)),
+        Found::Nothing => {},
     }
 }
 
