@@ -1,4 +1,4 @@
-// The console's own storage: one machine record is kept in a local and lent. Its parameters are plain, so that whoever calls it lends nothing.
+// The console's own storage: one machine record is kept in a local and lent. The parameters are plain, so that whoever calls it lends nothing.
 ghost use mathlib.Core.Path.{_≡_};
 ghost use Rattle.nanocore.specs.Numbers.{stepping};
 ghost use Rattle.nanocore.specs.Step.{situated, stepOf};

@@ -9,6 +9,7 @@ use crate::report::StepReport;
 use nanocore::answer::LoadAnswer;
 use nanocore::machine::Machine;
 
+// One instruction. A refused step leaves the machine, the place, the number and the buffer as found.
 pub fn step(
     machine: &mut Machine,
     input: &[u8],
@@ -27,6 +28,7 @@ pub fn step(
     }
 }
 
+// Until halted, refused or at the limit. A refused run leaves the machine as its last completed step left it.
 pub fn run(
     machine: &mut Machine,
     input: &[u8],
@@ -45,6 +47,7 @@ pub fn run(
     }
 }
 
+// A program into memory. One that is too long leaves the machine as found.
 pub fn load(machine: &mut Machine, program: &[u8], start: u8) -> LoadAnswer
     ensures { λ r. ⌜ loaded r (now (machine .exit)) ≡ loadOf (now (machine .entry)) (now (program .entry)) start ⌝ }
 {

@@ -1,5 +1,6 @@
 // The rule from its file, the station's bytes from standard input.
 ghost use Prim.Native.Nat.{_≤_};
+ghost use lib.ListN.{drop};
 ghost use mathlib.Core.Path.{_≡_};
 ghost use Rattle.io.specs.Counts.{Counts};
 use crate::arguments;
@@ -82,6 +83,7 @@ fn without(found: Found) -> Job
 pub fn read_input(program: &[u8], buffer: &mut [u8], limit: u16) -> Got
     ensures { λ r. ⌜ Counts (r .count) (now (buffer .exit)) ⌝ }
     ensures { λ r. ⌜ r .count ≤ limit ⌝ }
+    ensures { λ r. ⌜ drop limit (now (buffer .exit)) ≡ drop limit (now (buffer .entry)) ⌝ }
 {
     let got = files::read_some(STDIN_FILENO, buffer, limit as usize);
     if got.failed {
