@@ -2,7 +2,8 @@
 use mathlib.Core.Path.{_≡_, refl, ap}
 use mathlib.Core.Bool.{cond}
 use mathlib.Core.List.{List}
-use Prim.Native.Nat.{ℕ}
+use Prim.Native.Nat.{ℕ, _<_}
+use native.Mathlib.Omega.{arith}
 use lib.Dec.{eqb}
 use lib.ListN.{getD}
 use Rattle.byte.proofs.Inverse.{undone}
@@ -29,6 +30,15 @@ faultOf-number (StackEmpty sp) = refl
 faultOf-number (DivisorZero opcode) = refl
 faultOf-number NoInput = refl
 faultOf-number NoRoom = refl
+
+-- 3 to 8; 0 and 1 are the numbers of a step that completed
+pub fault-high : (f : Fault) → 1 < numberOf (faultNumber f)
+fault-high (InvalidOpcode opcode pc) = omega arith
+fault-high (StackFull sp) = omega arith
+fault-high (StackEmpty sp) = omega arith
+fault-high (DivisorZero opcode) = omega arith
+fault-high NoInput = omega arith
+fault-high NoRoom = omega arith
 
 pub faultNumber-injective : (f g : Fault) → faultNumber f ≡ faultNumber g → f ≡ g
 faultNumber-injective = undone faultNumber faultOf faultOf-number

@@ -5,9 +5,8 @@ use mathlib.Core.List.{List, [], _∷_}
 use Prim.Native.Nat.{ℕ, _≤_, _<_}
 use native.Mathlib.Omega.{arith}
 use borrow.Author.Tests.{le-leb, lt-leb}
-use Rattle.effect.specs.declared.Fault.{Fault}
-use Rattle.effect.specs.declared.Fault.the-variants.{InvalidOpcode, StackFull, StackEmpty, DivisorZero, NoInput, NoRoom}
 use Rattle.effect.specs.Numbers.{faultNumber, numberOf}
+use Rattle.effect.proofs.Laws.{fault-high}
 use Rattle.nanocore.specs.declared.answer.StepAnswer.{StepAnswer}
 use Rattle.nanocore.specs.declared.answer.StepAnswer.the-variants.{Stepped, AlreadyHalted, CountFull}
 use Rattle.nanocore.specs.declared.answer.StepOutcome.{StepOutcome}
@@ -16,16 +15,8 @@ use Rattle.nanocore.specs.Numbers.{stepNumber, stepping}
 use Rattle.nanocore.specs.Step.{Situation, refusedAt, situated, stepOf}
 use Rattle.nanocore.proofs.RunLaws.{turns-one, turns-plain}
 use Rattle.steps.specs.Trace.{completed}
-use Rattle.trace.specs.Look.{asLook, lookAfter, lookNumber, lookOf}
-
--- a fault is told by its number, 3 to 8; 0 and 1 are those of a completed step
-pub fault-high : (f : Fault) → 1 < numberOf (faultNumber f)
-fault-high (InvalidOpcode opcode pc) = omega arith
-fault-high (StackFull sp) = omega arith
-fault-high (StackEmpty sp) = omega arith
-fault-high (DivisorZero opcode) = omega arith
-fault-high NoInput = omega arith
-fault-high NoRoom = omega arith
+use Rattle.trace.specs.Look.{lookAfter, lookNumber, lookOf}
+use Rattle.trace.specs.Seen.{asLook}
 
 -- what the code makes of the step's answer is what the definition does
 as-look :

@@ -8,6 +8,7 @@ use native.Mathlib.Omega.{arith}
 use lib.Dec.{leb}
 use borrow.Author.Tests.{leb-true, leb-false, lt-leb}
 use Rattle.effect.specs.Numbers.{numberOf}
+use Rattle.effect.proofs.Laws.{fault-high}
 use Rattle.nanocore.specs.declared.answer.RunAnswer.{RunAnswer}
 use Rattle.nanocore.specs.declared.answer.RunAnswer.the-variants.{LimitReached}
 use Rattle.nanocore.specs.declared.machine.Machine.{Machine}
@@ -21,7 +22,6 @@ use Rattle.steps.proofs.Trace.{fuel-never-decides, run-more, run-stops}
 use Rattle.trace.specs.declared.answer.Look.the-variants.{Ended}
 use Rattle.trace.specs.declared.answer.LookOutcome.{LookOutcome}
 use Rattle.trace.specs.Look.{lookAfter, lookBy, looking, lookNumber, lookOf}
-use Rattle.trace.proofs.LookCases.{fault-high}
 
 -- how many looks at most are still to complete a step
 abbrev pub looks : Machine → ℕ

@@ -4,10 +4,6 @@ use Prim.Native.Nat.{ℕ}
 use mathlib.Core.Bool.{Bool, true, false}
 use mathlib.Core.List.{List, [], _∷_}
 use lib.Dec.{leb}
-use Rattle.nanocore.specs.declared.answer.RunAnswer.{RunAnswer}
-use Rattle.nanocore.specs.declared.answer.RunAnswer.the-variants.{LimitReached}
-use Rattle.nanocore.specs.declared.answer.StepAnswer.{StepAnswer}
-use Rattle.nanocore.specs.declared.answer.StepAnswer.the-variants.{Stepped, AlreadyHalted, CountFull}
 use Rattle.nanocore.specs.Numbers.{runNumber}
 use Rattle.nanocore.specs.Step.{Situation, Answered, situated, refusedAt, stepOf}
 use Rattle.steps.specs.Trace.{completed}
@@ -37,11 +33,3 @@ lookNumber (Ended answer) = runNumber answer
 -- what a caller has afterwards: the outcome, and the bytes of the lent buffer
 abbrev pub looking : LookOutcome → List ℕ → Answered
 looking r output = record { answer = lookNumber (r .look); after = situated (r .machine) (r .place) output (r .written) }
-
--- what a step of a machine below its limit means for a look; the cases of 2 and 9 do not occur
-abbrev pub asLook : StepAnswer → ℕ → Look
-asLook Stepped limit = Completed
-asLook StepAnswer.Halted limit = Completed
-asLook AlreadyHalted limit = Ended RunAnswer.Halted
-asLook (StepAnswer.Refused f) limit = Ended (RunAnswer.Refused f)
-asLook CountFull limit = Ended (LimitReached limit)

@@ -1,7 +1,8 @@
 // One look of a run: on a halted machine, or at the limit, the run ends; else the machine is lent for a step, by which the run goes on or ends.
 ghost use mathlib.Core.Path.{_≡_};
 ghost use Rattle.nanocore.specs.Step.{situated};
-ghost use Rattle.trace.specs.Look.{asLook, lookOf, looking};
+ghost use Rattle.trace.specs.Look.{lookOf, looking};
+ghost use Rattle.trace.specs.Seen.{asLook};
 use crate::answer::Look;
 use crate::answer::LookOutcome;
 use console::kept;
