@@ -1,12 +1,12 @@
 -- Laws of where two lists part: lists of one length that are alike to their end are one list, and what each turn of the code does.
-use mathlib.Core.Path.{_≡_, refl}
+use mathlib.Core.Path.{_≡_, refl, ap}
 use mathlib.Core.Bool.{Bool, true, false, cond}
-use mathlib.Core.List.{List, [], _∷_}
+use mathlib.Core.List.{List, [], _∷_, _++_}
 use Prim.Native.Nat.{ℕ, suc, _+_, _≤_, _<_}
 use native.Mathlib.Numerals.{add-one}
 use native.Mathlib.Omega.{arith}
 use lib.Dec.{eqb}
-use lib.ListN.{length, getD, drop, drop-of-length-le}
+use lib.ListN.{length, getD, take, drop, drop-of-length-le}
 use lib.Seq.{drop-cons}
 use borrow.Author.Tests.{eqb-true, eq-eqb, ne-eqb}
 use Rattle.fields.specs.Apart.{alike}
@@ -32,6 +32,18 @@ alike-whole (x ∷ xs) [] e l = absurd (omega arith)
 alike-whole (x ∷ xs) (y ∷ ys) e l =
     let both = went-on (eqb x y) (alike xs ys) (length xs) e in
     cc (eqb-true x y (both .0), alike-whole xs ys (both .1) (omega arith))
+
+-- a list is alike to its end with what begins with it, and with nothing else
+pub alike-front : (a b : List ℕ) → alike a (a ++ b) ≡ length a
+alike-front [] b = refl
+alike-front (x ∷ a) b = rw (eq-eqb x x refl) (ap suc (alike-front a b))
+
+pub alike-taken : (a b : List ℕ) → alike a b ≡ length a → a ≡ take (length a) b
+alike-taken [] b e = refl
+alike-taken (x ∷ xs) [] e = absurd (omega arith)
+alike-taken (x ∷ xs) (y ∷ ys) e =
+    let both = went-on (eqb x y) (alike xs ys) (length xs) e in
+    cc (eqb-true x y (both .0), alike-taken xs ys (both .1))
 
 alike-none : (a : List ℕ) → alike a [] ≡ 0
 alike-none [] = refl

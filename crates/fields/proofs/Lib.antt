@@ -1,4 +1,5 @@
 pub mod Fill
 pub mod ReadLaws
 pub mod LayLaws
+pub mod LaidLaws
 pub mod ApartLaws

@@ -21,7 +21,7 @@ pub struct Encoded {
 }
 
 // A number for each form, so that two can be compared.
-fn form_number(form: Form) -> u8
+pub fn form_number(form: Form) -> u8
     ensures { λ r. ⌜ r ≡ formNumber form ⌝ }
 {
     match form {
@@ -42,7 +42,7 @@ fn takes(op: Op, operands: Operands) -> bool
 }
 
 // A refusal gives no bytes.
-fn refused(answer: EncodeAnswer) -> Encoded
+pub fn refused(answer: EncodeAnswer) -> Encoded
     ensures { λ r. ⌜ encoding r ≡ noBytes (encodeNumber answer) ⌝ }
 {
     Encoded {

@@ -1,12 +1,13 @@
--- Step and run are so many turns: one, and those up to the limit.
-use mathlib.Core.Path.{_≡_, refl, sym, _∙_, ap}
+-- Step and run are so many turns: one, and those up to the limit. At the largest count a step is told by one turn from count 0.
+use mathlib.Core.Path.{_≡_, refl, sym, _∙_, ap, subst}
 use mathlib.Core.Bool.{Bool, true, false}
 use mathlib.Core.List.{List, [], _∷_}
 use Prim.Native.Nat.{ℕ, zero, suc, _+_, _-_, _≤_, _<_}
 use native.Mathlib.Nat.{not-suc-le-zero}
 use native.Mathlib.Omega.{arith}
-use lib.Dec.{eqb}
-use borrow.Author.Tests.{eqb-true, ne-eqb, le-leb, lt-leb}
+use lib.Dec.{eqb, ltb}
+use lib.ListN.{length}
+use borrow.Author.Tests.{eq-eqb, eqb-true, ne-eqb, le-leb, lt-leb}
 use Rattle.effect.specs.declared.Effect.{Effect}
 use Rattle.effect.specs.Effects.{Fate, done, halt, refused}
 use Rattle.turn.specs.Turn.{turnOf}
@@ -20,7 +21,7 @@ use Rattle.nanocore.specs.Machine.{mostCount}
 use Rattle.nanocore.specs.Numbers.{stepNumber, runNumber, stepping}
 use Rattle.nanocore.specs.Run.{onward, then, looked, runBy, runOf}
 use Rattle.nanocore.specs.Step.{Situation, Answered, viewOf, applied, refusedAt, settled, situated, stepOf}
-use Rattle.nanocore.specs.Turns.{asRun, awake, turnsOf}
+use Rattle.nanocore.specs.Turns.{asRun, awake, counting, turnsOf}
 use Rattle.nanocore.proofs.TurnLaws.{fault-stops}
 
 -- a machine that is not halted is itself, awake
@@ -179,6 +180,44 @@ module _ (input : List ℕ) (m : Machine) (place : ℕ) (output : List ℕ) (wri
   pub step-turns :
       turnsOf 1 input (situated (awake m) place output written) ≡ stepOf input (situated m place output written)
   step-turns = rw (awake-same m h) (turns-one input (situated m place output written) h)
+
+  -- At the largest count a step is told by one turn from count 0, with room where the step has room: 9 where the count rose, else the turn's answer.
+  module _ (full : m .count ≡ mostCount) (scratch : List ℕ) (used : ℕ) (room : ltb used (length scratch) ≡ ltb written (length output))
+      (tried : StepOutcome) (out : List ℕ) (e : stepping tried out ≡ turnsOf 1 input (situated (counting false 0 m) place scratch used)) where
+    abbrev s : Situation
+    s = situated m place output written
+
+    abbrev t : Situation
+    t = situated (counting false 0 m) place scratch used
+
+    came : stepping tried out ≡ settled (turnOf (viewOf input s)) t
+    came =
+        let alike : viewOf input t ≡ viewOf input s = rw room in
+        e ∙ turns-one input t refl ∙ step-awake input t refl ∙ ap (λ v. settled (turnOf v) t) alike
+
+    rose : (f : Fate) → 0 < settled f t .after .machine .count → refusedAt (9 ∷ []) s ≡ settled f s
+    rose (refused n) b = absurd (omega arith)
+    rose halt b = absurd (omega arith)
+    rose (done a) b = rw (eq-eqb _ _ full)
+
+    -- the turn's answer, and halted as it left it; all else as found
+    abbrev told : Answered → Answered
+    told r = refusedAt (r .answer) (situated (counting (r .after .machine .halted) (m .count) m) place output written)
+
+    stayed : (f : Fate) → settled f t .after .machine .count ≤ 0 → told (settled f t) ≡ settled f s
+    stayed (refused n) b = rw (awake-same m h)
+    stayed halt b = refl
+    stayed (done a) b = absurd (omega arith)
+
+    pub step-rose : 0 < tried .machine .count → refusedAt (9 ∷ []) s ≡ stepOf input s
+    step-rose b =
+        rose (turnOf (viewOf input s)) (subst (λ r. 0 < r .after .machine .count) came b) ∙ sym (step-awake input s h)
+
+    pub step-stayed : tried .machine .count ≤ 0 → told (stepping tried out) ≡ stepOf input s
+    step-stayed b =
+        ap told came
+        ∙ stayed (turnOf (viewOf input s)) (subst (λ r. r .after .machine .count ≤ 0) came b)
+        ∙ sym (step-awake input s h)
 
   pub run-last :
       (last : StepOutcome) (out : List ℕ) → m .count < m .limit → m .limit ≤ mostCount →

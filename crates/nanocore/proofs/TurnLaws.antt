@@ -5,7 +5,7 @@ use mathlib.Core.List.{List, [], _∷_}
 use Prim.Native.Nat.{ℕ, zero, suc, _-_, _<_, _≤_}
 use native.Mathlib.Nat.{not-suc-le-zero}
 use native.Mathlib.Numerals.{sub-one}
-use borrow.Author.Tests.{eq-eqb, ne-eqb}
+use borrow.Author.Tests.{ne-eqb}
 use lib.ListN.{length, length-set}
 use Rattle.effect.specs.declared.Effect.{Effect}
 use Rattle.effect.specs.declared.Write.{Write}
@@ -67,9 +67,6 @@ module _ (input : List ℕ) (s : Situation) (k : ℕ) {t : Answered} (all : turn
 
   pub turns-halted : r ≡ Turn.Halt → record { answer = 1 ∷ []; after = haltedAt s } ≡ t
   turns-halted e = sym (first input s k some ∙ rw (sym next, e)) ∙ all
-
-  pub turns-full : (a : Effect) → r ≡ Turn.Done a → s .machine .count ≡ mostCount → refusedAt (9 ∷ []) s ≡ t
-  turns-full a e full = sym (first input s k some ∙ rw (sym next, e, eq-eqb _ _ full)) ∙ all
 
   pub turns-done : (a : Effect) → r ≡ Turn.Done a → (s .machine .count ≡ mostCount → ⊥) → turnsOf (k - 1) input (applied a s) ≡ t
   turns-done a e below = sym (first input s k some ∙ rw (sym next, e, ne-eqb _ _ below)) ∙ all

@@ -15,19 +15,23 @@ use Rattle.nanocore.specs.declared.turns.Tally.{Tally}
 use Rattle.nanocore.specs.Run.{onward, then}
 use Rattle.nanocore.specs.Step.{Situation, Answered, viewOf, settled}
 
--- the machine, not halted
-abbrev pub awake : Machine → Machine
-awake m =
+-- the machine, halted or not, and at a count
+abbrev pub counting : Bool → ℕ → Machine → Machine
+counting halted count m =
     record {
       registers = m .registers;
       memory = m .memory;
       pc = m .pc;
       sp = m .sp;
       flags = m .flags;
-      halted = false;
-      count = m .count;
+      halted = halted;
+      count = count;
       limit = m .limit;
     }
+
+-- the machine, not halted
+abbrev pub awake : Machine → Machine
+awake m = counting false (m .count) m
 
 -- the outcome that the loop's locals make
 abbrev pub endedWith : StepAnswer → List ℕ → List ℕ → Core → Bool → Tally → StepOutcome

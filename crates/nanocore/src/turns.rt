@@ -1,12 +1,13 @@
 // Up to so many instructions, one after the other. Registers and memory lie in local arrays, so that an instruction writes the one place that it
 // alters; the machine record is made once, at the end.
 ghost use mathlib.Core.Path.{_≡_};
+ghost use Prim.Native.Nat.{_+_, _≤_};
+ghost use Rattle.nanocore.specs.Machine.{mostCount};
 ghost use Rattle.nanocore.specs.Step.{situated};
 ghost use Rattle.nanocore.specs.Turns.{awake, endedWith, turnsOf};
 ghost use Rattle.nanocore.specs.Numbers.{stepping};
 use crate::answer::StepAnswer;
 use crate::answer::StepOutcome;
-use crate::machine::MAX_COUNT;
 use crate::machine::Machine;
 use crate::write::write_memory;
 use crate::write::write_output;
@@ -50,7 +51,8 @@ fn ended(
     }
 }
 
-// Halted or not, the machine is taken as not halted: a halted one is its callers' to answer.
+// Halted or not, the machine is taken as not halted: a halted one is its callers' to answer. So is a count that the turns could raise too far: were
+// it tested after each turn, what stood before the turn would have to be kept through it.
 pub fn turns(
     machine: Machine,
     most: u16,
@@ -59,6 +61,7 @@ pub fn turns(
     output: &mut [u8],
     written: usize,
 ) -> StepOutcome
+    requires { ⌜ machine .count + most ≤ mostCount ⌝ }
     ensures { λ r. ⌜ stepping r (now (output .exit)) ≡ turnsOf most (now (input .entry)) (situated (awake machine) place (now (output .entry)) written) ⌝ }
 {
     let mut registers = machine.registers;
@@ -92,9 +95,6 @@ pub fn turns(
                 return ended(StepAnswer::Halted, registers, memory, core, true, tally);
             }
             Turn::Done(effect) => {
-                if tally.count == MAX_COUNT {
-                    return ended(StepAnswer::CountFull, registers, memory, core, false, tally);
-                }
                 let write = effect.write;
                 write_register(write, &mut registers);
                 write_memory(write, &mut memory);

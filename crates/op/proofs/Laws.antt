@@ -3,6 +3,7 @@
 use mathlib.Core.Path.{_≡_, refl, ap}
 use mathlib.Core.List.{List, [], _∷_, map}
 use Prim.Native.Nat.{ℕ, zero, suc, _<_, _≤_}
+use native.Mathlib.Omega.{arith}
 use native.Mathlib.Nat.{le-of-suc-le-suc, not-suc-le-zero}
 use borrow.Author.Tests.{ltb-true}
 use lib.Dec.{ltb}
@@ -72,12 +73,16 @@ all-agree f g (o ∷ os) e = (ap (λ l. getD l 0 (f o)) e, all-agree f g os (ap 
 pub agree : {A : Type 0} (f g : Op → A) → map f ops ≡ map g ops → (o : Op) → f o ≡ g o
 agree f g e = each (λ o. f o ≡ g o) (all-agree f g ops e)
 
--- the operation at a byte below the list's length, and none at any other
-pub found : (os : List Op) (b : ℕ) (d : Op) → b < length os → Found (getD os b d) ≡ opAt os b
-found [] b d h = absurd (not-suc-le-zero h)
-found (o ∷ os) zero d h = refl
-found (o ∷ os) (suc b) d h = found os b d (le-of-suc-le-suc h)
+-- a number that is none of those below n is n or more; a match on numbers says it so of its last arm
+abbrev NoneBelow : ℕ → ℕ → Type 0
+NoneBelow zero x = Unit {0}
+NoneBelow (suc n) x = NoneBelow n x × (x ≡ n → ⊥)
 
+pub none-below : (n x : ℕ) → NoneBelow n x → n ≤ x
+none-below zero x h = omega arith
+none-below (suc n) x h = omega (arith, none-below n x (h .0))
+
+-- no operation at a byte from the list's length on
 pub past : (os : List Op) (b : ℕ) → length os ≤ b → Unknown ≡ opAt os b
 past [] b h = refl
 past (o ∷ os) zero h = absurd (not-suc-le-zero h)

@@ -17,14 +17,12 @@ pub fn turn(registers: &[u8; 16], memory: &[u8; 256], core: Core, input: &[u8], 
     let pc = core.pc;
     let opcode = memory[pc as usize];
     let two = wrapping_add_u8(pc, 1);
-    let three = wrapping_add_u8(pc, 2);
     let second = memory[two as usize];
-    let third = memory[three as usize];
     match Op::decode(opcode) {
         Lookup::Unknown => Turn::Refused(Fault::InvalidOpcode {
             opcode: opcode,
             pc: pc,
         }),
-        Lookup::Found(op) => execute(op, second, third, registers, memory, core, input, room),
+        Lookup::Found(op) => execute(op, second, registers, memory, core, input, room),
     }
 }

@@ -2,5 +2,5 @@
 
 // The forty operations at work.
 pub mod execute;
-// From pc to the operation and its bytes.
+// From pc to the operation and byte two; an operation that has a byte three reads it itself.
 pub mod fetch;

@@ -8,7 +8,7 @@ use lib.ListN.{length, take}
 use Rattle.fields.specs.Lay.{laid}
 use Rattle.row.proofs.RoomLaws.{line-taken, line-within}
 use Rattle.listing.specs.Listing.{listed}
-use Rattle.listing.proofs.LaidLaws.{laid-next, laid-whole}
+use Rattle.fields.proofs.LaidLaws.{laid-next, laid-whole}
 use Rattle.listing.proofs.WalkLaws.{rest, rest-all, rest-none, rest-turn}
 use Rattle.listing.proofs.listing.write.Statement.{statement}
 use Rattle.listing.proofs.listing.write.Tie as tie

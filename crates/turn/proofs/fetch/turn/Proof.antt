@@ -1,4 +1,4 @@
--- The operation is the one that decoding finds, and the bytes behind it stand where the wrapping sums say.
+-- The operation is the one that decoding finds, and byte two stands where the wrapping sum says.
 use mathlib.Core.Path.{sym, _∙_}
 use Rattle.instruction.specs.Decode.{decodedOf}
 use Rattle.turn.specs.Turn.{turnOf}
@@ -15,20 +15,11 @@ element-copy-out-opcode c = search needs
 wrapping-add-u8-requires : tie.Need-wrapping-add-u8-requires
 wrapping-add-u8-requires c κs = search needs
 
-wrapping-add-u8-requires-2 : tie.Need-wrapping-add-u8-requires-2
-wrapping-add-u8-requires-2 c κs = search needs
-
 cast-second : tie.Need-cast-second
 cast-second c = search needs
 
 element-copy-out-second : tie.Need-element-copy-out-second
 element-copy-out-second c = search needs
-
-cast-third : tie.Need-cast-third
-cast-third c = search needs
-
-element-copy-out-third : tie.Need-element-copy-out-third
-element-copy-out-third c = search needs
 
 decode-requires : tie.Need-decode-requires
 decode-requires c κs = search needs
@@ -48,7 +39,9 @@ returns c = rw (sym (c .before .before .decode .ensures) ∙ c .enum-told .given
 
 returns-2 : tie.Need-returns-2
 unfolding turnOf decodedOf
-returns-2 c = rw (sym (c .before .before .before .before .decode .ensures) ∙ c .before .before .op .given .1) (c .execute .ensures ∙ rw (c .before .before .before .before .before .before .before .before .wrapping-add-u8 .ensures, c .before .before .before .before .before .before .before .wrapping-add-u82 .ensures))
+returns-2 c =
+    rw (sym (c .before .before .before .before .decode .ensures) ∙ c .before .before .op .given .1)
+    (c .execute .ensures ∙ rw (c .before .before .before .before .before .before .wrapping-add-u8 .ensures))
 
 pub turn-spec : {M : Type 1} → statement M
 turn-spec =
@@ -57,11 +50,8 @@ turn-spec =
     cast-opcode
     element-copy-out-opcode
     wrapping-add-u8-requires
-    wrapping-add-u8-requires-2
     cast-second
     element-copy-out-second
-    cast-third
-    element-copy-out-third
     decode-requires
     enum-told
     enum-known-op

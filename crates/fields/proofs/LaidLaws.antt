@@ -17,7 +17,7 @@ laid-append buffer at (x ∷ a) b =
     rw next (laid-append (set buffer at x) (at + 1) a b)
 
 pub laid-next :
-    (buffer : List ℕ) (at : ℕ) {n : ℕ} (a b : List ℕ) → n ≡ length a →
+    {n : ℕ} (buffer : List ℕ) (at : ℕ) (a b : List ℕ) → n ≡ length a →
     laid (laid buffer at a) (at + n) b ≡ laid buffer at (a ++ b)
 laid-next buffer at a b e = rw e (laid-append buffer at a b)
 

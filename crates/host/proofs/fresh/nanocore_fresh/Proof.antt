@@ -1,0 +1,18 @@
+-- The length is tested, and then tested again where the record is written.
+use mathlib.Core.Path.{_∙_}
+use borrow.Author.Needs.{needs}
+use borrow.Author.Tests.{eq-eqb, ne-eqb}
+use Rattle.host.proofs.fresh.nanocore_fresh.Statement.{statement}
+use Rattle.host.proofs.fresh.nanocore_fresh.Tie as tie
+
+returns : tie.Need-returns
+returns c = rw (ne-eqb _ _ (c .if1 .taken))
+
+returns-2 : tie.Need-returns-2
+returns-2 c =
+    let tested = c .before .before .before .before .before in
+    rw (c .before .before .write .ensures, eq-eqb _ _ (tested .if1 .left), c .before .before .before .before .fresh .ensures)
+
+pub nanocore-fresh-spec : {M : Type 1} → statement M
+nanocore-fresh-spec =
+    tie.close (tie.spec returns (λ c κs. search needs) (λ c κs. search needs) (λ c. search needs) returns-2)

@@ -1,0 +1,49 @@
+-- Bytes that are no record are left; else the step answers for the machine that the record holds.
+use mathlib.Core.Path.{sym, _∙_}
+use denote.Ref.{now}
+use borrow.Author.Needs.{needs}
+use borrow.Author.Tests.{not-true, not-false}
+use Rattle.nanocore.specs.Step.{stepOf}
+use Rattle.record.proofs.Crossing.{record-long}
+use Rattle.host.proofs.MachineLaws.{move-crosses}
+use Rattle.host.proofs.step.nanocore_step.Statement.{statement}
+use Rattle.host.proofs.step.nanocore_step.Tie as tie
+
+returns : tie.Need-returns
+returns c = rw (sym (c .before .is-record .ensures) ∙ not-true _ (c .if1 .taken))
+
+read-requires : tie.Need-read-requires
+read-requires c κs =
+    record-long _ (sym (c .before .before .is-record .ensures) ∙ not-false _ (c .before .if1 .left))
+
+returns-2 : tie.Need-returns-2
+returns-2 c =
+    let called = c .before .before .before .before .before .before .before .before .before in
+    let reading = called .before .before .before .before in
+    let tested = reading .before .before in
+    let args = tested .before .before .before .before .before .before .args in
+    move-crosses (now (args .machine)) (now (args .values))
+    (sym (tested .before .is-record .ensures) ∙ not-false _ (tested .if1 .left))
+    (reading .read .ensures)
+    (stepOf (now (args .input)))
+    (now (args .place))
+    (now (args .output))
+    (now (args .written))
+    (called .step .ensures)
+    (c .before .before .before .before .before .step-number .ensures)
+    (c .before .before .before .write .ensures)
+
+pub nanocore-step-spec : {M : Type 1} → statement M
+nanocore-step-spec =
+    tie.close
+    (tie.spec
+    (λ c κs. search needs)
+    (λ c. search needs)
+    returns
+    read-requires
+    (λ c κs. search needs)
+    (λ c κs. search needs)
+    (λ c κs. search needs)
+    (λ c. search needs)
+    (λ c. search needs)
+    returns-2)

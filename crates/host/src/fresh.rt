@@ -1,0 +1,18 @@
+// A fresh machine, as its record.
+ghost use mathlib.Core.Path.{_≡_};
+ghost use Rattle.host.specs.Machine.{freshOf, freshened};
+use crate::NONE;
+use nanocore::machine::Machine;
+use record::record::LENGTH;
+use record::record::write;
+
+#[no_mangle]
+pub extern "C" fn nanocore_fresh(machine: &mut [u8]) -> usize
+    ensures { λ r. ⌜ freshened r (now (machine .exit)) ≡ freshOf (now (machine .entry)) ⌝ }
+{
+    if machine.len() != LENGTH {
+        return NONE;
+    }
+    write(Machine::fresh(), machine);
+    0
+}

@@ -1,0 +1,4 @@
+pub mod Four
+pub mod Record
+pub mod Held
+pub mod Accepted
