@@ -55,8 +55,8 @@ static struct host_side host_start(const struct rule *rule)
     struct host_side side = {0};
     nanocore_fresh(side.machine, NANOCORE_RECORD);
     nanocore_load(side.machine, NANOCORE_RECORD, rule->bytes, rule->length, 0, side.values);
-    side.machine[NANOCORE_LIMIT] = LIMIT % 256;
-    side.machine[NANOCORE_LIMIT + 1] = LIMIT / 256;
+    side.machine[NANOCORE_AT_LIMIT] = LIMIT % 256;
+    side.machine[NANOCORE_AT_LIMIT + 1] = LIMIT / 256;
     return side;
 }
 
@@ -85,11 +85,11 @@ static bool same(const struct plain_side *p, size_t plain_answer, const struct h
 {
     const uint8_t *r = h->machine;
     const struct plain_machine *m = &p->machine;
-    return plain_answer == host_answer && r[NANOCORE_PC] == m->pc && r[NANOCORE_SP] == m->sp &&
-           r[NANOCORE_FLAGS] == m->flags && r[NANOCORE_HALTED] == m->halted &&
-           r[NANOCORE_COUNT] + 256 * r[NANOCORE_COUNT + 1] == m->count &&
-           memcmp(r + NANOCORE_REGISTERS, m->registers, 16) == 0 &&
-           memcmp(r + NANOCORE_MEMORY, m->memory, 256) == 0 && h->place == p->ports.place &&
+    return plain_answer == host_answer && r[NANOCORE_AT_PC] == m->pc && r[NANOCORE_AT_SP] == m->sp &&
+           r[NANOCORE_AT_FLAGS] == m->flags && r[NANOCORE_AT_HALTED] == m->halted &&
+           r[NANOCORE_AT_COUNT] + 256 * r[NANOCORE_AT_COUNT + 1] == m->count &&
+           memcmp(r + NANOCORE_AT_REGISTERS, m->registers, 16) == 0 &&
+           memcmp(r + NANOCORE_AT_MEMORY, m->memory, 256) == 0 && h->place == p->ports.place &&
            h->written == p->ports.written;
 }
 
@@ -190,17 +190,40 @@ static void measure_labels(int rounds)
     printf("address pass at %zu bytes: answer %zu, %zu labels, %.2f us\n", length, answer, count, best / 1e3);
 }
 
+static void keep(const char *folder, const char *name, const uint8_t *bytes, size_t length)
+{
+    char path[4096];
+    snprintf(path, sizeof path, "%s/%s", folder, name);
+    FILE *file = fopen(path, "wb");
+    if (file == NULL || fwrite(bytes, 1, length, file) != length || fclose(file) != 0) {
+        perror(path);
+        exit(2);
+    }
+}
+
+/* The rules and the input as files, for whoever measures something else with them. */
+static void keep_rules(const char *folder)
+{
+    keep(folder, "input", input, INPUT);
+    for (size_t i = 0; i < sizeof rules / sizeof *rules; i++)
+        keep(folder, rules[i].name, rules[i].bytes, rules[i].length);
+}
+
 int main(int count, char **words)
 {
-    int rounds = count > 1 ? atoi(words[1]) : 0;
-    if (rounds < 1) {
-        fprintf(stderr, "usage: bench ROUNDS, at least 1\n");
-        return 2;
-    }
     uint32_t seed = 1;
     for (int i = 0; i < INPUT; i++) {
         seed = seed * 1103515245u + 12345u;
         input[i] = (uint8_t)(seed >> 16);
+    }
+    if (count == 3 && strcmp(words[1], "keep") == 0) {
+        keep_rules(words[2]);
+        return 0;
+    }
+    int rounds = count == 2 ? atoi(words[1]) : 0;
+    if (rounds < 1) {
+        fprintf(stderr, "usage: bench ROUNDS, at least 1; or bench keep FOLDER, which writes rules and input there\n");
+        return 2;
     }
     double worst = 0;
     for (size_t i = 0; i < sizeof rules / sizeof *rules; i++) {

@@ -1,10 +1,11 @@
 /* NanoCore for C: the proved machine, behind ten functions. Link the archive that `rt staticlib host` writes
    (target/staticlib/libhost.a, for x86-64 Linux); examples/c shows how.
 
-   Every function answers on all bytes, lengths and numbers. What it answers is one of document 01's numbers, or 90;
-   the values that come with a number go to `values`, 0 for a value that there is not. What a function leaves in
-   everything that it is lent is written beside it, and proved (crates/host). It keeps nothing between two calls,
-   reads and writes nothing but what it is lent, and several threads may call at once, each with its own.
+   Every function answers on all bytes, lengths and numbers. What it answers is one of document 01's numbers, or 90.
+   The values that come with a number go to values[0] and values[1], 0 for a value that there is not; after 90 they are
+   as they were, like all else. What a function leaves in everything that it is lent is written beside it, and proved
+   (crates/host). It keeps nothing between two calls, reads and writes nothing but what it is lent, and several threads
+   may call at once, each with its own.
 
    The caller owes what C cannot test: each pointer leads to as many bytes or numbers as its length or its type
    says, is not NULL where the length is not 0, and no two of one call overlap, where one of them is written. */
@@ -24,33 +25,33 @@ extern "C" {
      1       the set of operations, 1            12..15   limit, 0 to 65,535
      2       pc                                  16..19   0, kept for a sum
      3       sp                                  20..23   0
-     4       flags: Z 1, C 2, N 4, Y 8           24..39   registers R0 to R15
+     4       flags, 0 to 255: Z 1, C 2, N 4, Y 8 24..39   registers R0 to R15
      5       halted, 0 or 1                      40..295  memory
      6..7    0
 
    One machine has one record, and a record may be kept, copied, compared and sent. Each field may be written by hand:
-   within the ranges above it is a machine, outside them it is none. */
+   within the ranges above it is a machine, outside them it is none. What was a record before a call is one after it. */
 #define NANOCORE_RECORD 296
 
 enum nanocore_field {
-    NANOCORE_VERSION = 0,
-    NANOCORE_SET = 1,
-    NANOCORE_PC = 2,
-    NANOCORE_SP = 3,
-    NANOCORE_FLAGS = 4,
-    NANOCORE_HALTED = 5,
-    NANOCORE_COUNT = 8,
-    NANOCORE_LIMIT = 12,
-    NANOCORE_REGISTERS = 24,
-    NANOCORE_MEMORY = 40
+    NANOCORE_AT_VERSION = 0,
+    NANOCORE_AT_SET = 1,
+    NANOCORE_AT_PC = 2,
+    NANOCORE_AT_SP = 3,
+    NANOCORE_AT_FLAGS = 4,
+    NANOCORE_AT_HALTED = 5,
+    NANOCORE_AT_COUNT = 8,
+    NANOCORE_AT_LIMIT = 12,
+    NANOCORE_AT_REGISTERS = 24,
+    NANOCORE_AT_MEMORY = 40
 };
 
-/* The numbers that come back, with their values. */
+/* The numbers that come back, with their values in order. */
 enum nanocore_answer {
-    NANOCORE_DONE = 0,               /* stepped, or done */
+    NANOCORE_DONE = 0,               /* stepped, or done; of a listing the length of its text */
     NANOCORE_HALTS = 1,              /* a step that executed HLT, or a run's end */
     NANOCORE_ALREADY_HALTED = 2,     /* step alone */
-    NANOCORE_INVALID_OPCODE = 3,     /* the opcode, and of a step or a run pc */
+    NANOCORE_INVALID_OPCODE = 3,     /* the opcode; of a step or a run then pc */
     NANOCORE_STACK_FULL = 4,         /* sp */
     NANOCORE_STACK_EMPTY = 5,        /* sp */
     NANOCORE_DIVISOR_ZERO = 6,       /* the opcode */
@@ -58,7 +59,7 @@ enum nanocore_answer {
     NANOCORE_NO_ROOM = 8,
     NANOCORE_COUNT_FULL = 9,         /* step alone: the count is 65,535 */
     NANOCORE_LIMIT_REACHED = 10,     /* run alone: the limit */
-    NANOCORE_TOO_LONG = 11,          /* start + length is above 256: the length, the start */
+    NANOCORE_TOO_LONG = 11,          /* start + length is above 256: the length, then the start */
     NANOCORE_OTHER_FORM = 12,
     NANOCORE_NO_SUCH_REGISTER = 13,
     NANOCORE_TEXT_TOO_LONG = 14,     /* the length that the text needs */
@@ -69,11 +70,15 @@ enum nanocore_answer {
     NANOCORE_NO_MACHINE = 90         /* the bytes are no machine of this build; nothing was changed */
 };
 
+/* What this header was written for. */
+#define NANOCORE_LAYOUT 1
+#define NANOCORE_OPERATIONS 40
+
 /* The version of the record's layout, 1: byte 0 of every record. */
 size_t nanocore_version(void);
 
-/* How many of the 256 opcode bytes this build knows: 40. A build that runs one of them as something else knows
-   fewer; ask before you trust a node. */
+/* How many of the 256 opcode bytes this build knows: 40. A build that does not know one of them knows fewer; ask
+   before you trust a node. */
 size_t nanocore_operations(void);
 
 /* Writes the record of a fresh machine: all 0, but sp 255 and limit 1024.
@@ -81,7 +86,7 @@ size_t nanocore_operations(void);
 size_t nanocore_fresh(uint8_t *machine, size_t machine_length);
 
 /* Copies a program into memory from a start address on and sets pc to it. Halted, count, registers and the rest of
-   memory stay.
+   memory stay: begin each rule with nanocore_fresh, or a machine that has halted stays halted.
    Answers 0; 11 with the program's length and the start, and the machine is as it was; or 90. */
 size_t nanocore_load(uint8_t *machine, size_t machine_length,
                      const uint8_t *program, size_t program_length, uint8_t start,
@@ -96,7 +101,7 @@ size_t nanocore_step(uint8_t *machine, size_t machine_length,
                      size_t values[2]);
 
 /* Steps until the machine halts, an instruction is refused, or the count is at or above the limit.
-   Answers 1, 3 to 8, 10, or 90. After 3 to 10 all is as the last completed step left it. Of the output no byte but
+   Answers 1, at once where the machine has halted already, 3 to 8, 10, or 90. After 3 to 10 all is as the last completed step left it. Of the output no byte but
    those printed is written. */
 size_t nanocore_run(uint8_t *machine, size_t machine_length,
                     const uint8_t *input, size_t input_length, size_t *place,
@@ -123,7 +128,8 @@ size_t nanocore_list(const uint8_t *program, size_t program_length, uint8_t star
                      uint8_t *text, size_t text_length, size_t values[2]);
 
 /* The labels of a source in the order of their first appearance: of each the place and the length of its name in the
-   source, and its address. Entries from the count on are 0.
+   source, and its address. Entries from the count on are 0. What a source is, docs/MACHINE.md says in section 12; its
+   first line is line 1.
    Answers 0; or 15, or 16 to 18 with the line, and then count and entries are 0. */
 size_t nanocore_labels(const uint8_t *source, size_t source_length, size_t *count,
                        uint16_t places[64], uint16_t lengths[64], uint8_t addresses[64],

@@ -22,12 +22,14 @@ mod program;
 mod programs;
 mod random;
 mod record;
+mod time;
 mod words;
 
 const USAGE: &str = "usage: oracle all N SEED               every case of the exhaustive families, then N random ones
        oracle record                   the list that the repository keeps
        oracle labels N SEED FOLDER     sources for the address pass and their answers, in a new folder: likewise
-       oracle labels record FOLDER     those that the repository keeps, in a folder";
+       oracle labels record FOLDER     those that the repository keeps, in a folder
+       oracle time RULE INPUT ROUNDS   how long a rule takes, in nanoseconds a step";
 
 type Out = BufWriter<StdoutLock<'static>>;
 
@@ -36,6 +38,7 @@ enum Wanted {
     Record,
     Labels { number: u64, seed: u64, folder: PathBuf },
     LabelsRecord { folder: PathBuf },
+    Time { rule: PathBuf, input: PathBuf, rounds: u32 },
 }
 
 fn wanted(arguments: &[String]) -> Option<Wanted> {
@@ -46,6 +49,9 @@ fn wanted(arguments: &[String]) -> Option<Wanted> {
         ["labels", "record", folder] => Wanted::LabelsRecord { folder: folder.into() },
         ["labels", number, seed, folder] => {
             Wanted::Labels { number: number.parse().ok()?, seed: seed.parse().ok()?, folder: folder.into() }
+        }
+        ["time", rule, input, rounds] => {
+            Wanted::Time { rule: rule.into(), input: input.into(), rounds: rounds.parse().ok().filter(|n| *n > 0)? }
         }
         _ => return None,
     })
@@ -72,6 +78,7 @@ fn make(wanted: &Wanted) -> io::Result<()> {
         Wanted::Record => listed(record::record),
         Wanted::Labels { number, seed, folder } => labels::all(*number, *seed, folder),
         Wanted::LabelsRecord { folder } => labels::sample(folder),
+        Wanted::Time { rule, input, rounds } => time::time(rule, input, *rounds),
     }
 }
 

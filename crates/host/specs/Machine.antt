@@ -1,4 +1,4 @@
--- A machine that crosses as its record. "Bytes that are no machine of this build are answered 90 and nothing is changed."
+-- A machine that crosses as its record. Bytes that are no machine of this build are answered 90, and nothing is changed.
 use Prim.Native.Nat.{ℕ}
 use mathlib.Core.Bool.{cond}
 use mathlib.Core.List.{List}

@@ -1,5 +1,7 @@
 // A program into the memory of a machine that the host keeps as its record.
+ghost use mathlib.Core.Bool.{true};
 ghost use mathlib.Core.Path.{_≡_};
+ghost use Rattle.record.specs.Record.{isRecord};
 ghost use Rattle.host.specs.Machine.{loadFrom, loaded};
 use crate::NONE;
 use answers::number::load_number;
@@ -19,6 +21,7 @@ pub extern "C" fn nanocore_load(
         loaded r (now (values .exit)) (now (machine .exit))
         ≡ loadFrom (now (machine .entry)) (now (program .entry)) start (now (values .entry))
         ⌝ }
+    ensures { λ r. ⌜ (isRecord (now (machine .entry)) ≡ true → isRecord (now (machine .exit)) ≡ true) ⌝ }
 {
     if !is_record(machine) {
         return NONE;

@@ -1,5 +1,7 @@
 // One step of a machine that the host keeps as its record.
+ghost use mathlib.Core.Bool.{true};
 ghost use mathlib.Core.Path.{_≡_};
+ghost use Rattle.record.specs.Record.{isRecord};
 ghost use Rattle.host.specs.Machine.{moved, stepFrom};
 use crate::NONE;
 use answers::number::step_number;
@@ -21,6 +23,7 @@ pub extern "C" fn nanocore_step(
         moved r (now (values .exit)) (now (machine .exit)) (now (place .exit)) (now (output .exit)) (now (written .exit))
         ≡ stepFrom (now (machine .entry)) (now (input .entry)) (now (place .entry)) (now (output .entry)) (now (written .entry)) (now (values .entry))
         ⌝ }
+    ensures { λ r. ⌜ (isRecord (now (machine .entry)) ≡ true → isRecord (now (machine .exit)) ≡ true) ⌝ }
 {
     if !is_record(machine) {
         return NONE;

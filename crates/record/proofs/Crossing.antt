@@ -1,4 +1,4 @@
--- "Writing a machine and reading it back gives it again, and one machine has one record."
+-- Writing a machine and reading it back gives it again, and one machine has one record.
 use mathlib.Core.Path.{_≡_, refl, sym, _∙_, ap}
 use mathlib.Core.Bool.{Bool, true, false, and-eq-true-iff}
 use mathlib.Core.List.{List, _++_}

@@ -1,5 +1,5 @@
--- What a record of this build is known by, in the words that say what is none: "another length or version, a field out of its range, a zero
--- that is not".
+-- What a record of this build is known by. Bytes of another length or version, with a field out of its range or with a zero that is not, are
+-- none.
 use Prim.Native.Nat.{ℕ, _≤_}
 use mathlib.Core.List.{List}
 use mathlib.Core.Path.{_≡_}

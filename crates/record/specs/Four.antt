@@ -1,4 +1,4 @@
--- "little-endian": a number of four bytes, the lowest first.
+-- A number of four bytes, the lowest first.
 use Prim.Native.Nat.{ℕ, _+_, _*_, _/_, _%_}
 use mathlib.Core.List.{List, [], _∷_}
 use Rattle.fields.specs.Read.{byteAt}

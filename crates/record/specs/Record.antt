@@ -20,13 +20,13 @@ layout = 1
 abbrev pub operationSet : ℕ
 operationSet = 1
 
--- "0 layout version (1); 1 set (1); 2 pc; 3 sp; 4 flags; 5 halted (0 or 1); 6..7 zero; 8..11 count; 12..15 limit; 16..19 sum (0 until the
--- machine carries it); 20..23 zero"
+-- byte 0 the version; 1 the set; 2 pc; 3 sp; 4 flags; 5 halted, 0 or 1; 6..7 zero; 8..11 count; 12..15 limit; 16..19 zero, kept for a sum;
+-- 20..23 zero
 abbrev pub headOf : Machine → List ℕ
 headOf m =
     layout ∷ operationSet ∷ m .pc ∷ m .sp ∷ m .flags ∷ bit (m .halted) ∷ 0 ∷ 0 ∷ four (m .count) ++ four (m .limit) ++ four 0 ++ four 0
 
--- "24..39 registers; 40..295 memory"
+-- bytes 24..39 the registers; 40..295 the memory
 unfoldable pub recordOf : Machine → List ℕ
 recordOf m = headOf m ++ m .registers ++ m .memory
 

@@ -1,5 +1,5 @@
 // The record of a machine: 296 bytes. What so many bytes hold is read whatever they are; whether they are a record at all is asked apart.
-ghost use mathlib.Core.Bool.{cond};
+ghost use mathlib.Core.Bool.{true, cond};
 ghost use mathlib.Core.Path.{_≡_};
 ghost use lib.Dec.{eqb};
 ghost use lib.ListN.{length};
@@ -70,9 +70,10 @@ fn memory(bytes: &[u8]) -> [u8; 256]
     memory
 }
 
-// The record of the machine, where the bytes are as many as a record has.
+// The record of the machine, where the bytes are as many as a record has; it is one that is_record knows.
 pub fn write(machine: Machine, bytes: &mut [u8])
     ensures { λ r. ⌜ now (bytes .exit) ≡ cond (eqb (length (now (bytes .entry))) 296) (recordOf machine) (now (bytes .entry)) ⌝ }
+    ensures { λ r. ⌜ (length (now (bytes .entry)) ≡ 296 → isRecord (now (bytes .exit)) ≡ true) ⌝ }
 {
     if bytes.len() != LENGTH {
         return;

@@ -1,17 +1,20 @@
 -- The length is tested, and then tested again where the record is written.
-use mathlib.Core.Path.{_∙_}
+use native.Mathlib.Omega.{arith}
 use borrow.Author.Needs.{needs}
 use borrow.Author.Tests.{eq-eqb, ne-eqb}
 use Rattle.host.proofs.fresh.nanocore_fresh.Statement.{statement}
 use Rattle.host.proofs.fresh.nanocore_fresh.Tie as tie
 
 returns : tie.Need-returns
-returns c = rw (ne-eqb _ _ (c .if1 .taken))
+returns c = (rw (ne-eqb _ _ (c .if1 .taken)), λ zero. absurd (omega (arith, zero)))
 
 returns-2 : tie.Need-returns-2
 returns-2 c =
     let tested = c .before .before .before .before .before in
-    rw (c .before .before .write .ensures, eq-eqb _ _ (tested .if1 .left), c .before .before .before .before .fresh .ensures)
+    let writing = c .before .before .write in (
+      rw (writing .ensures .0, eq-eqb _ _ (tested .if1 .left), c .before .before .before .before .fresh .ensures),
+      λ _. writing .ensures .1 (tested .if1 .left),
+    )
 
 pub nanocore-fresh-spec : {M : Type 1} → statement M
 nanocore-fresh-spec =

@@ -9,7 +9,7 @@ use Rattle.host.proofs.load.nanocore_load.Statement.{statement}
 use Rattle.host.proofs.load.nanocore_load.Tie as tie
 
 returns : tie.Need-returns
-returns c = rw (sym (c .before .is-record .ensures) ∙ not-true _ (c .if1 .taken))
+returns c = (rw (sym (c .before .is-record .ensures) ∙ not-true _ (c .if1 .taken)), λ is. is)
 
 read-requires : tie.Need-read-requires
 read-requires c κs =
@@ -20,14 +20,18 @@ returns-2 c =
     let called = c .before .before .before .before .before .before .before in
     let tested = called .before .before .before in
     let args = tested .before .before .before .before .before .args in
-    load-crosses (now (args .machine)) (now (args .values))
-    (sym (tested .before .is-record .ensures) ∙ not-false _ (tested .if1 .left))
-    (called .before .read .ensures)
-    (now (args .program))
-    (args .start)
-    (called .load .ensures)
-    (c .before .before .before .before .before .load-number .ensures)
-    (c .before .before .before .write .ensures)
+    let is = sym (tested .before .is-record .ensures) ∙ not-false _ (tested .if1 .left) in
+    let writing = c .before .before .before .write in (
+      load-crosses (now (args .machine)) (now (args .values))
+          is
+          (called .before .read .ensures)
+          (now (args .program))
+          (args .start)
+          (called .load .ensures)
+          (c .before .before .before .before .before .load-number .ensures)
+          (writing .ensures .0),
+      λ _. writing .ensures .1 (record-long _ is),
+    )
 
 pub nanocore-load-spec : {M : Type 1} → statement M
 nanocore-load-spec =

@@ -10,7 +10,7 @@ use Rattle.host.proofs.run.nanocore_run.Statement.{statement}
 use Rattle.host.proofs.run.nanocore_run.Tie as tie
 
 returns : tie.Need-returns
-returns c = rw (sym (c .before .is-record .ensures) ∙ not-true _ (c .if1 .taken))
+returns c = (rw (sym (c .before .is-record .ensures) ∙ not-true _ (c .if1 .taken)), λ is. is)
 
 read-requires : tie.Need-read-requires
 read-requires c κs =
@@ -22,16 +22,20 @@ returns-2 c =
     let reading = called .before .before .before .before in
     let tested = reading .before .before in
     let args = tested .before .before .before .before .before .before .args in
-    move-crosses (now (args .machine)) (now (args .values))
-    (sym (tested .before .is-record .ensures) ∙ not-false _ (tested .if1 .left))
-    (reading .read .ensures)
-    (runOf (now (args .input)))
-    (now (args .place))
-    (now (args .output))
-    (now (args .written))
-    (called .run .ensures)
-    (c .before .before .before .before .before .run-number .ensures)
-    (c .before .before .before .write .ensures)
+    let is = sym (tested .before .is-record .ensures) ∙ not-false _ (tested .if1 .left) in
+    let writing = c .before .before .before .write in (
+      move-crosses (now (args .machine)) (now (args .values))
+          is
+          (reading .read .ensures)
+          (runOf (now (args .input)))
+          (now (args .place))
+          (now (args .output))
+          (now (args .written))
+          (called .run .ensures)
+          (c .before .before .before .before .before .run-number .ensures)
+          (writing .ensures .0),
+      λ _. writing .ensures .1 (record-long _ is),
+    )
 
 pub nanocore-run-spec : {M : Type 1} → statement M
 nanocore-run-spec =

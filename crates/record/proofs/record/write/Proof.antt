@@ -4,12 +4,15 @@ use denote.Ref.{now}
 use borrow.Author.Needs.{needs}
 use borrow.Author.Tests.{eq-eqb, ne-eqb}
 use Rattle.fields.specs.Lay.{laid}
+use Rattle.record.specs.Held.{Held}
+use Rattle.record.specs.Record.{isRecord}
+use Rattle.record.proofs.Crossing.{written-record}
 use Rattle.record.proofs.RecordLaws.{laid-record}
 use Rattle.record.proofs.record.write.Statement.{statement}
 use Rattle.record.proofs.record.write.Tie as tie
 
 returns : tie.Need-returns
-returns c = rw (ne-eqb _ _ (c .if1 .taken))
+returns c = (rw (ne-eqb _ _ (c .if1 .taken)), λ long. absurd (c .if1 .taken long))
 
 returns-2 : tie.Need-returns-2
 returns-2 c =
@@ -20,11 +23,16 @@ returns-2 c =
     let head = c .before .before .before .before .before .before .before .before .before .before .before .before .before .before .before .head in
     let laying = c .before .before .before .before .before .before .before .before .before .before .before .before .lay in
     let laying2 = c .before .before .before .before .before .before .before .lay2 in
-    rw (eq-eqb _ _ long)
-    (c .before .before .lay3 .ensures
+    let held : Held m = record { registers = search needs; memory = search needs; count = search needs; limit = search needs } in
+    let whole =
+    c .before .before .lay3 .ensures
     ∙ ap (λ b. laid b 40 (m .memory))
     (laying2 .ensures ∙ ap (λ b. laid b 24 (m .registers)) (laying .ensures ∙ ap (laid (now (args .bytes)) 0) (head .ensures)))
-    ∙ laid-record m (now (args .bytes)) (search needs) (search needs) long)
+    ∙ laid-record m (now (args .bytes)) (held .registers) (held .memory) long
+    in (
+      rw (eq-eqb _ _ long) whole,
+      λ _. ap isRecord whole ∙ written-record m held,
+    )
 
 pub write-spec : {M : Type 1} → statement M
 write-spec =
