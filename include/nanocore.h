@@ -77,7 +77,7 @@ enum nanocore_answer {
 /* The version of the record's layout, 1: byte 0 of every record. */
 size_t nanocore_version(void);
 
-/* How many of the 256 opcode bytes this build knows: 40. A build that does not know one of them knows fewer; ask
+/* How many of the 256 opcode bytes this build knows: 40. A build that does not know one of them answers less; ask
    before you trust a node. */
 size_t nanocore_operations(void);
 

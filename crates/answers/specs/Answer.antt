@@ -1,8 +1,8 @@
 -- What a step, a run or a load answers, as numbers and bytes that can be compared one by one.
 use Prim.Native.Nat.{ℕ, _%_}
-use mathlib.Core.Bool.{Bool, true, false}
 use mathlib.Core.List.{List, [], _∷_}
 use lib.ListN.{getD}
+use Rattle.byte.specs.Flags.{bit}
 use Rattle.nanocore.specs.declared.machine.Machine.{Machine}
 use Rattle.nanocore.specs.Load.{Loading, loadOf}
 use Rattle.nanocore.specs.Run.{runOf}
@@ -15,10 +15,6 @@ use Rattle.answers.specs.declared.number.Numbered.{Numbered}
 -- a number and its values, 0 for a value that there is not
 abbrev pub numbered : List ℕ → Numbered
 numbered l = record { number = getD l 0 0; first = getD l 1 0; second = getD l 2 0 }
-
-abbrev pub bit : Bool → ℕ
-bit true = 1
-bit false = 0
 
 -- all that a caller has afterwards, but for the output
 abbrev pub answerBy : Numbered → Machine → ℕ → ℕ → Answer

@@ -26,6 +26,11 @@ clearFlag flags bit = bitAnd flags (255 - bit)
 abbrev pub getFlag : ℕ → ℕ → Bool
 getFlag flags bit = not (eqb (bitAnd flags bit) 0)
 
+-- a yes or no as a number
+abbrev pub bit : Bool → ℕ
+bit true = 1
+bit false = 0
+
 -- set when the test holds, cleared otherwise
 abbrev pub putFlag : ℕ → ℕ → Bool → ℕ
 putFlag flags bit true = setFlag flags bit

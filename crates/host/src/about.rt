@@ -11,7 +11,7 @@ pub extern "C" fn nanocore_version() -> usize
     1
 }
 
-// How many of the 256 opcode bytes this build knows. A build that runs one of them as something else knows fewer.
+// How many of the 256 opcode bytes this build knows. A build that does not know one of them answers less.
 #[no_mangle]
 pub extern "C" fn nanocore_operations() -> usize
     ensures { λ r. ⌜ r ≡ knownBelow 256 ⌝ }

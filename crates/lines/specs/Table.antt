@@ -13,7 +13,7 @@ use Rattle.names.specs.Names.{nameOf, named, spelled}
 use Rattle.compare.specs.declared.verdict.Part.the-variants.{Number}
 use Rattle.compare.specs.declared.verdict.Verdict.{Verdict}
 use Rattle.compare.specs.declared.verdict.Verdict.the-variants.{Torn}
-use Rattle.answers.specs.Answer.{bit}
+use Rattle.byte.specs.Flags.{bit}
 use Rattle.compare.specs.Verdict.{parted}
 
 -- "1 where it is an operation's, the byte of that operation, its length, the length of its name, the name's five bytes"

@@ -8,6 +8,7 @@ use lib.Dec.{eqb}
 use lib.ListN.{length, take, drop, length-drop, take-append-drop}
 use lib.Seq.{take-at, drop-at, take-all, drop-drop}
 use borrow.Author.Tests.{eqb-true, eq-eqb}
+use Rattle.byte.specs.Flags.{bit}
 use Rattle.fields.specs.Apart.{alike}
 use Rattle.fields.specs.Read.{byteAt, stretch}
 use Rattle.fields.proofs.ApartLaws.{alike-front, alike-taken}
@@ -16,7 +17,7 @@ use Rattle.nanocore.specs.declared.machine.Machine.{Machine}
 use Rattle.record.specs.Accepted.{Accepted}
 use Rattle.record.specs.Four.{four, fourAt}
 use Rattle.record.specs.Held.{Held}
-use Rattle.record.specs.Record.{bit, headOf, isRecord, machineOf, recordOf}
+use Rattle.record.specs.Record.{headOf, isRecord, machineOf, recordOf}
 use Rattle.record.proofs.RecordLaws.{length-record}
 
 bit-read : (b : Bool) → eqb (bit b) 1 ≡ b

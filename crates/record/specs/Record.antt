@@ -1,17 +1,14 @@
 -- The record by which a machine crosses to another language: 296 bytes.
 use Prim.Native.Nat.{ℕ, _%_}
-use mathlib.Core.Bool.{Bool, true, false, _&&_}
+use mathlib.Core.Bool.{Bool, _&&_}
 use mathlib.Core.List.{List, [], _∷_, _++_}
 use lib.Dec.{eqb}
 use lib.ListN.{length}
+use Rattle.byte.specs.Flags.{bit}
 use Rattle.fields.specs.Apart.{alike}
 use Rattle.fields.specs.Read.{byteAt, stretch}
 use Rattle.nanocore.specs.declared.machine.Machine.{Machine}
 use Rattle.record.specs.Four.{four, fourAt}
-
-abbrev pub bit : Bool → ℕ
-bit true = 1
-bit false = 0
 
 -- the version of this layout, and the set of operations
 abbrev pub layout : ℕ
