@@ -4,7 +4,7 @@ use mathlib.Core.Bool.{cond}
 use mathlib.Core.List.{List, [], _∷_}
 use lib.Dec.{eqb}
 use lib.ListN.{length, replicate}
-use Rattle.byte.specs.Flags.{setFlag, clearFlag, getFlag, zn}
+use Rattle.byte.specs.Flags.{bit, setFlag, clearFlag, getFlag, zn}
 use Rattle.fields.specs.Read.{byteAt, part}
 use Rattle.op.specs.declared.operation.Lookup.{Lookup}
 use Rattle.op.specs.declared.operation.Lookup.the-variants.{Found, Unknown}
@@ -13,7 +13,6 @@ use Rattle.names.specs.Names.{nameOf, named, spelled}
 use Rattle.compare.specs.declared.verdict.Part.the-variants.{Number}
 use Rattle.compare.specs.declared.verdict.Verdict.{Verdict}
 use Rattle.compare.specs.declared.verdict.Verdict.the-variants.{Torn}
-use Rattle.byte.specs.Flags.{bit}
 use Rattle.compare.specs.Verdict.{parted}
 
 -- "1 where it is an operation's, the byte of that operation, its length, the length of its name, the name's five bytes"
