@@ -190,6 +190,28 @@ static void measure_labels(int rounds)
     printf("address pass at %zu bytes: answer %zu, %zu labels, %.2f us\n", length, answer, count, best / 1e3);
 }
 
+/* 256 set bytes, as Intel HEX and back. */
+static void measure_hex(int rounds)
+{
+    static uint8_t text[TEXT];
+    uint8_t image[256], marks[256];
+    size_t values[2], wrote = 0, length = 0, read = 0;
+    memcpy(image, input, sizeof image);
+    memset(marks, 1, sizeof marks);
+    double out = 1e18, in = 1e18;
+    for (int i = 0; i < rounds; i++) {
+        double start = now();
+        wrote = nanocore_write_hex(image, sizeof image, marks, sizeof marks, text, TEXT, values);
+        least(&out, now() - start);
+        length = values[0];
+        start = now();
+        read = nanocore_read_hex(text, length, image, sizeof image, marks, sizeof marks, values);
+        least(&in, now() - start);
+    }
+    printf("HEX of 256 bytes: answers %zu %zu, %zu bytes of text, written in %.2f us, read in %.2f us\n", wrote, read, length,
+           out / 1e3, in / 1e3);
+}
+
 static void keep(const char *folder, const char *name, const uint8_t *bytes, size_t length)
 {
     char path[4096];
@@ -233,6 +255,7 @@ int main(int count, char **words)
     }
     measure_listing(rounds);
     measure_labels(rounds);
+    measure_hex(rounds);
     printf("worst run to O3 %.2f\n", worst);
     return 0;
 }

@@ -1,4 +1,4 @@
-// What a step, a run or a load answers, as numbers and bytes that can be compared one by one.
+// What a step, a run, a load or a transfer answers, as numbers and bytes that can be compared one by one.
 
 // All of an answer.
 pub mod answer;

@@ -1,12 +1,13 @@
 // The paper's number and values of each answer, 0 for a value that there is not.
 ghost use mathlib.Core.Path.{_≡_};
 ghost use Rattle.effect.specs.Numbers.{faultNumber};
-ghost use Rattle.nanocore.specs.Numbers.{stepNumber, runNumber, loadNumber};
+ghost use Rattle.nanocore.specs.Numbers.{stepNumber, runNumber, loadNumber, transferNumber};
 ghost use Rattle.answers.specs.Answer.{numbered};
 use effect::Fault;
 use nanocore::answer::LoadAnswer;
 use nanocore::answer::RunAnswer;
 use nanocore::answer::StepAnswer;
+use nanocore::answer::TransferAnswer;
 
 pub struct Numbered {
     pub number: usize,
@@ -55,6 +56,15 @@ pub fn load_number(answer: LoadAnswer) -> Numbered
     match answer {
         LoadAnswer::Loaded => numbers(0, 0, 0),
         LoadAnswer::TooLong { length, start } => numbers(11, length, start as usize),
+    }
+}
+
+pub fn transfer_number(answer: TransferAnswer) -> Numbered
+    ensures { λ r. ⌜ r ≡ numbered (transferNumber answer) ⌝ }
+{
+    match answer {
+        TransferAnswer::Transferred => numbers(0, 0, 0),
+        TransferAnswer::NoImage => numbers(19, 0, 0),
     }
 }
 

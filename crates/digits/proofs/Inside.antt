@@ -9,7 +9,8 @@ use lib.Dec.{ltb}
 use lib.ListN.{length, set, length-set}
 use Rattle.digits.specs.declared.unhex.Unhexed.{Unhexed}
 use Rattle.digits.specs.declared.unhex.Unhexed.the-variants.{Bytes, Stopped}
-use Rattle.digits.specs.Unhex.{Told, told, turn, from, digitOf, parts, unhexed}
+use Rattle.digits.specs.Digit.{digitOf}
+use Rattle.digits.specs.Unhex.{Told, told, turn, from, parts, unhexed}
 
 -- the bytes counted are no more than the buffer has
 abbrev pub Within : Told → Type 0

@@ -9,7 +9,8 @@ use lib.ListN.{length, getD, set, drop, drop-of-length-le}
 use lib.Seq.{drop-cons}
 use borrow.Author.Tests.{lt-ltb, le-ltb}
 use Rattle.digits.specs.declared.unhex.Unhexed.the-variants.{Bytes, Stopped}
-use Rattle.digits.specs.Unhex.{Told, told, from, digitOf, parts}
+use Rattle.digits.specs.Digit.{digitOf}
+use Rattle.digits.specs.Unhex.{Told, told, from, parts}
 
 -- before the place i: what is left to read tells all
 pub record Reading (text : List ℕ) (all : Told) (buffer : List ℕ) (count high i : ℕ) : Type 0 where

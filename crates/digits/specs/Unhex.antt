@@ -1,19 +1,12 @@
 -- "bytes as two hexadecimal digits each, upper case or lower. Blanks and bars may stand between bytes and mean nothing".
-use Prim.Native.Nat.{ℕ, _+_, _*_, _-_}
-use mathlib.Core.Bool.{Bool, true, false, cond, _&&_, _||_}
+use Prim.Native.Nat.{ℕ, _+_, _*_}
+use mathlib.Core.Bool.{Bool, true, false, cond, _||_}
 use mathlib.Core.List.{List, [], _∷_}
-use lib.Dec.{eqb, leb, ltb}
+use lib.Dec.{eqb, ltb}
 use lib.ListN.{length, set}
+use Rattle.digits.specs.Digit.{digitOf}
 use Rattle.digits.specs.declared.unhex.Unhexed.{Unhexed}
 use Rattle.digits.specs.declared.unhex.Unhexed.the-variants.{Bytes, Stopped}
-
--- the value of a digit, and 16 where the byte is none
-unfoldable pub digitOf : ℕ → ℕ
-digitOf c =
-    cond
-    (leb 48 c && leb c 57)
-    (c - 48)
-    (cond (leb 65 c && leb c 70) (c - 55) (cond (leb 97 c && leb c 102) (c - 87) 16))
 
 -- a blank or a bar
 unfoldable pub parts : ℕ → Bool

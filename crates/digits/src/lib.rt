@@ -1,4 +1,6 @@
 // Bytes as text.
 
-// Hexadecimal digits to bytes.
+// Hexadecimal digits.
+pub mod digit;
+// A text of digits to bytes.
 pub mod unhex;

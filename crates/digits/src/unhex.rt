@@ -1,6 +1,8 @@
 // Digits to bytes: two hexadecimal digits to a byte, blanks and bars between bytes.
 ghost use mathlib.Core.Path.{_≡_};
-ghost use Rattle.digits.specs.Unhex.{digitOf, parts as Unhex·parts, unhexed, told};
+ghost use Rattle.digits.specs.Unhex.{parts as Unhex·parts, unhexed, told};
+use crate::digit::NONE;
+use crate::digit::digit;
 
 pub enum Unhexed {
     // so many bytes, at the start of the buffer
@@ -9,9 +11,7 @@ pub enum Unhexed {
     Stopped(usize),
 }
 
-// No digit waits for its second.
-const NONE: u8 = 16;
-
+// Where no digit waits for its second, NONE stands in its place.
 pub fn unhex(text: &[u8], buffer: &mut [u8]) -> Unhexed
     ensures { λ r. ⌜ told r (now (buffer .exit)) ≡ unhexed (now (text .entry)) (now (buffer .entry)) ⌝ }
 {
@@ -46,18 +46,6 @@ pub fn unhex(text: &[u8], buffer: &mut [u8]) -> Unhexed
         return Unhexed::Bytes(count);
     }
     Unhexed::Stopped(i)
-}
-
-// The value of a digit in either case, and 16 where the byte is none.
-fn digit(c: u8) -> u8
-    ensures { λ r. ⌜ r ≡ digitOf c ⌝ }
-{
-    match c {
-        48..=57 => c - 48,
-        65..=70 => c - 55,
-        97..=102 => c - 87,
-        _ => NONE,
-    }
 }
 
 // What may stand between bytes.

@@ -1,11 +1,11 @@
 -- Laws of what is laid: pieces one after the other are their text at once, and a text that fits stands before the rest of its buffer.
 use mathlib.Core.Path.{_≡_, refl, _∙_}
-use mathlib.Core.List.{List, [], _∷_, _++_}
+use mathlib.Core.List.{List, [], _∷_, _++_, append-nil}
 use Prim.Native.Nat.{ℕ, suc, _+_, _≤_}
 use native.Mathlib.Nat.{zero-add}
 use native.Mathlib.Numerals.{add-one}
 use native.Mathlib.Omega.{arith}
-use lib.ListN.{length, set, drop}
+use lib.ListN.{length, set, take, drop, drop-of-length-le}
 use lib.Seq.{sets, sets-eq}
 use Rattle.fields.specs.Lay.{laid}
 
@@ -25,6 +25,17 @@ as-sets : (buffer : List ℕ) (at : ℕ) (text : List ℕ) → laid buffer at te
 as-sets buffer at [] = refl
 as-sets buffer at (x ∷ text) = rw (add-one at) (as-sets (set buffer at x) (suc at) text)
 
+-- a text that fits stands in its stretch, and the rest is as it was
+pub laid-filled :
+    (buffer : List ℕ) (at : ℕ) (text : List ℕ) → at + length text ≤ length buffer →
+    laid buffer at text ≡ take at buffer ++ text ++ drop (at + length text) buffer
+laid-filled buffer at text fits = as-sets buffer at text ∙ sets-eq text buffer at fits
+
 pub laid-whole :
     (buffer text : List ℕ) → length text ≤ length buffer → laid buffer 0 text ≡ text ++ drop (length text) buffer
-laid-whole buffer text fits = as-sets buffer 0 text ∙ simp zero-add at (sets-eq text buffer 0 (omega arith))
+laid-whole buffer text fits = simp zero-add at (laid-filled buffer 0 text (omega arith))
+
+-- what is laid over as many bytes takes their place
+pub laid-over : (old new : List ℕ) → length old ≡ length new → laid old 0 new ≡ new
+laid-over old new same =
+    laid-whole old new (omega arith) ∙ rw (drop-of-length-le old {i = length new} (omega arith)) (append-nil new)

@@ -2,4 +2,5 @@ pub mod Fill
 pub mod ReadLaws
 pub mod LayLaws
 pub mod LaidLaws
+pub mod OverlayLaws
 pub mod ApartLaws

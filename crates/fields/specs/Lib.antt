@@ -1,3 +1,5 @@
 pub mod Read
 pub mod Lay
+pub mod Overlay
+pub mod Written
 pub mod Apart

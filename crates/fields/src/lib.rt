@@ -4,5 +4,7 @@
 pub mod apart;
 // Bytes laid over a memory or a buffer.
 pub mod lay;
+// The marked bytes of an image over others.
+pub mod overlay;
 // Bytes and numbers at a place.
 pub mod read;

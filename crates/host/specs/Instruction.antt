@@ -4,17 +4,15 @@ use Prim.Native.Nat.{ℕ}
 use mathlib.Core.Bool.{cond}
 use mathlib.Core.List.{List, [], _∷_}
 use lib.Dec.{eqb}
-use Rattle.op.specs.declared.form.Form.{Form}
 use Rattle.op.specs.declared.operation.Lookup.{Lookup}
 use Rattle.op.specs.declared.operation.Lookup.the-variants.{Found, Unknown}
 use Rattle.op.specs.declared.operation.Op.{Op}
 use Rattle.op.specs.Operations.{decoded, formOf, lengthOf}
-use Rattle.instruction.specs.declared.operands.Operands.{Operands}
-use Rattle.instruction.specs.declared.operands.Operands.the-variants.{None, Reg, RegImm, RegReg, RegAddr, Addr}
 use Rattle.instruction.specs.Decode.{Decoding, decodedOf}
 use Rattle.instruction.specs.Encode.{Encoding, encodedOf, formNumber, noBytes}
 use Rattle.instruction.specs.Operands.{firstOf, secondOf}
-use Rattle.host.specs.Told.{numberOf, valuesOf}
+use Rattle.numbers.specs.Operands.{given}
+use Rattle.numbers.specs.Told.{numberOf, valuesOf}
 
 -- after decode: the number, and opcode, form, first operand, second operand and length
 pub record Parted : Type 0 where
@@ -32,15 +30,6 @@ partsOf (Decoding.refused answer) opcode = parted (numberOf answer) (opcode ∷ 
 
 abbrev pub decodeFrom : (opcode two three : ℕ) → Parted
 decodeFrom opcode two three = partsOf (decodedOf opcode two three) opcode
-
--- operands of a form, from two numbers; what the form does not take is left out
-abbrev pub given : Form → ℕ → ℕ → Operands
-given Form.None first second = None
-given Form.Reg first second = Reg first
-given Form.RegImm first second = RegImm first second
-given Form.RegReg first second = RegReg first second
-given Form.RegAddr first second = RegAddr first second
-given Form.Addr first second = Addr first
 
 -- "12 operands of another form", and for a number that is no form's
 unfoldable pub encodeWith : Op → (form first second : ℕ) → Encoding

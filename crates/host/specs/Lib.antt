@@ -1,5 +1,5 @@
 pub mod About
-pub mod Told
 pub mod Machine
 pub mod Instruction
 pub mod Text
+pub mod Hex

@@ -1,6 +1,6 @@
 -- A machine that crosses as its record. Bytes that are no machine of this build are answered 90, and nothing is changed.
 use Prim.Native.Nat.{ℕ}
-use mathlib.Core.Bool.{cond}
+use mathlib.Core.Bool.{cond, _&&_}
 use mathlib.Core.List.{List}
 use lib.Dec.{eqb}
 use lib.ListN.{length}
@@ -9,23 +9,34 @@ use Rattle.nanocore.specs.Load.{Loading, loadOf}
 use Rattle.nanocore.specs.Machine.{fresh}
 use Rattle.nanocore.specs.Run.{runOf}
 use Rattle.nanocore.specs.Step.{Answered, Situation, situated, stepOf}
+use Rattle.nanocore.specs.Transfer.{Transferring, transferOf}
 use Rattle.record.specs.Record.{isRecord, machineOf, recordOf}
-use Rattle.host.specs.Told.{numberOf, valuesOf}
+use Rattle.numbers.specs.Told.{numberOf, valuesOf}
 
 -- no machine of this build
 abbrev pub none : ℕ
 none = 90
 
--- after fresh: the number, and the record
-pub record Freshened : Type 0 where
+-- after fresh or a transfer: the number, and the record
+pub record Kept : Type 0 where
   pub number : ℕ
   pub machine : List ℕ
 
-abbrev pub freshened : ℕ → List ℕ → Freshened
-freshened number machine = record { number = number; machine = machine }
+abbrev pub kept : ℕ → List ℕ → Kept
+kept number machine = record { number = number; machine = machine }
 
-abbrev pub freshOf : List ℕ → Freshened
-freshOf bytes = cond (eqb (length bytes) 296) (freshened 0 (recordOf fresh)) (freshened none bytes)
+abbrev pub freshOf : List ℕ → Kept
+freshOf bytes = cond (eqb (length bytes) 296) (kept 0 (recordOf fresh)) (kept none bytes)
+
+abbrev pub transferCrossed : Transferring → Kept
+transferCrossed t = kept (numberOf (t .answer)) (recordOf (t .machine))
+
+-- "19: a lent image or its marks not 256 long", before 90: it "comes before every other and changes nothing"
+abbrev pub transferFrom : (bytes image marks : List ℕ) → Kept
+transferFrom bytes image marks =
+    cond (eqb (length image) 256 && eqb (length marks) 256)
+    (cond (isRecord bytes) (transferCrossed (transferOf (machineOf bytes) image marks)) (kept none bytes))
+    (kept 19 bytes)
 
 -- after a load: the number with its values, and the record
 pub record Loaded : Type 0 where

@@ -2,23 +2,24 @@
 use Prim.Native.Nat.{ℕ}
 use mathlib.Core.List.{List}
 use Rattle.labels.specs.Pass.{Mapping, mappingOf}
-use Rattle.listing.specs.Listing.{Listing, listingOf}
-use Rattle.host.specs.Told.{numberOf, valuesOf}
+use Rattle.fields.specs.Written.{Written}
+use Rattle.listing.specs.Listing.{listingOf}
+use Rattle.numbers.specs.Told.{numberOf, valuesOf}
 
--- after a listing: the number with its values, and the buffer
-pub record Listed : Type 0 where
+-- after a text was written: the number with its values, and the buffer
+pub record Texted : Type 0 where
   pub number : ℕ
   pub values : List ℕ
   pub text : List ℕ
 
-abbrev pub listed : ℕ → List ℕ → List ℕ → Listed
-listed number values text = record { number = number; values = values; text = text }
+abbrev pub texted : ℕ → List ℕ → List ℕ → Texted
+texted number values text = record { number = number; values = values; text = text }
 
-abbrev pub listedOf : Listing → Listed
-listedOf l = listed (numberOf (l .answer)) (valuesOf (l .answer)) (l .buffer)
+abbrev pub textedOf : Written → Texted
+textedOf w = texted (numberOf (w .answer)) (valuesOf (w .answer)) (w .buffer)
 
-abbrev pub listFrom : (program : List ℕ) (start : ℕ) (text : List ℕ) → Listed
-listFrom program start text = listedOf (listingOf program start text)
+abbrev pub listFrom : (program : List ℕ) (start : ℕ) (text : List ℕ) → Texted
+listFrom program start text = textedOf (listingOf program start text)
 
 -- after the address pass: the number with its values, and the table
 pub record Mapped : Type 0 where

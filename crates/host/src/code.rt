@@ -2,10 +2,6 @@
 ghost use mathlib.Core.Path.{_≡_};
 ghost use Rattle.instruction.specs.Numbers.{encoding};
 ghost use Rattle.host.specs.Instruction.{coded, decodeFrom, encodeFrom, encodeWith, parted};
-use crate::number::encode_number;
-use crate::operands::first;
-use crate::operands::given;
-use crate::operands::second;
 use instruction::decode::Decoded;
 use instruction::decode::decode;
 use instruction::encode::EncodeAnswer;
@@ -13,6 +9,10 @@ use instruction::encode::Encoded;
 use instruction::encode::encode;
 use instruction::encode::form_number;
 use instruction::encode::refused;
+use numbers::number::encode_number;
+use numbers::operands::first;
+use numbers::operands::given;
+use numbers::operands::second;
 use op::operation::Lookup;
 use op::operation::Op;
 

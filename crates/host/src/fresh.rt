@@ -2,7 +2,7 @@
 ghost use mathlib.Core.Bool.{true};
 ghost use mathlib.Core.Path.{_≡_};
 ghost use Rattle.record.specs.Record.{isRecord};
-ghost use Rattle.host.specs.Machine.{freshOf, freshened};
+ghost use Rattle.host.specs.Machine.{freshOf, kept};
 use crate::NONE;
 use nanocore::machine::Machine;
 use record::record::LENGTH;
@@ -10,7 +10,7 @@ use record::record::write;
 
 #[no_mangle]
 pub extern "C" fn nanocore_fresh(machine: &mut [u8]) -> usize
-    ensures { λ r. ⌜ freshened r (now (machine .exit)) ≡ freshOf (now (machine .entry)) ⌝ }
+    ensures { λ r. ⌜ kept r (now (machine .exit)) ≡ freshOf (now (machine .entry)) ⌝ }
     ensures { λ r. ⌜ (r ≡ 0 → isRecord (now (machine .exit)) ≡ true) ⌝ }
 {
     if machine.len() != LENGTH {

@@ -2,19 +2,18 @@
 
 // What this build is.
 pub mod about;
-// A machine: fresh, loaded, stepped, run.
+// A machine: fresh, loaded, stepped, run, and given an image's bytes.
 pub mod fresh;
 pub mod load;
 pub mod run;
 pub mod step;
+pub mod transfer;
 // An instruction, decoded and encoded.
 pub mod code;
 // A program in words, and the labels of a source.
 pub mod text;
-// Operands as two numbers.
-mod operands;
-// The paper's number and values of an answer.
-mod number;
+// An image and its marks, from Intel HEX and as Intel HEX.
+pub mod hex;
 
 // What is answered to bytes that are no machine of this build; then nothing is changed.
 pub const NONE: usize = 90;

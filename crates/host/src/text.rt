@@ -1,10 +1,10 @@
 // A program in words, into a lent buffer, and the labels of a source.
 ghost use mathlib.Core.Path.{_≡_};
-ghost use Rattle.host.specs.Text.{listFrom, listed, mapFrom, mapped};
-use crate::number::list_number;
-use crate::number::map_number;
+ghost use Rattle.host.specs.Text.{listFrom, mapFrom, mapped, texted};
 use labels::pass::map_labels;
 use listing::listing::list;
+use numbers::number::list_number;
+use numbers::number::map_number;
 
 #[no_mangle]
 pub extern "C" fn nanocore_list(
@@ -14,7 +14,7 @@ pub extern "C" fn nanocore_list(
     values: &mut [usize; 2],
 ) -> usize
     ensures { λ r.
-        ⌜ listed r (now (values .exit)) (now (text .exit)) ≡ listFrom (now (program .entry)) start (now (text .entry)) ⌝ }
+        ⌜ texted r (now (values .exit)) (now (text .exit)) ≡ listFrom (now (program .entry)) start (now (text .entry)) ⌝ }
 {
     let number = list_number(list(program, start, text));
     *values = [number.first, number.second];

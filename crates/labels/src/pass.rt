@@ -1,15 +1,13 @@
 // The address pass over a source: each line moves the address on or gives it a name.
 ghost use Prim.Native.Nat.{_+_, _%_, _≤_};
 ghost use mathlib.Core.Path.{_≡_};
-ghost use lib.ListN.{length, drop};
-ghost use Rattle.scan.specs.declared.class.Class.the-variants.{Is};
-ghost use Rattle.scan.specs.Scan.{first as Scan·first};
+ghost use lib.ListN.{length};
 ghost use Rattle.table.specs.Table.{noLabels};
 ghost use Rattle.labels.specs.Numbers.{mapping, progress, refusalNumber};
 ghost use Rattle.labels.specs.Pass.{ended, goes, labelled as Pass·labelled, mappingOf, passed, refused as Pass·refused, told, turn as Pass·turn};
 use scan::class::Class;
-use scan::scan::first;
 use scan::scan::last;
+use scan::scan::line_end;
 use scan::scan::some;
 use source::line::line;
 use source::meaning::Meaning;
@@ -98,15 +96,6 @@ fn over_lines(source: &[u8]) -> Mapped
         answer: MapAnswer::Done,
         labels: labels,
     }
-}
-
-// Where the line that begins at a place ends: at its LF, or with the source.
-fn line_end(source: &[u8], at: usize) -> usize
-    requires { ⌜ at ≤ length (now source) ⌝ }
-    ensures { λ r. ⌜ r ≡ at + Scan·first (Is 0x0a) (drop at (now (source .entry))) ⌝ }
-    ensures { λ r. ⌜ r ≤ length (now (source .entry)) ⌝ }
-{
-    at + first(Class::Is(b'\n'), &source[at..])
 }
 
 // One line of the source, which stands at a place in it.

@@ -3,7 +3,8 @@ use Prim.Native.Nat.{ℕ, zero, suc, _+_, _-_}
 use mathlib.Core.Bool.{cond}
 use mathlib.Core.List.{List, [], _∷_, _++_}
 use lib.Dec.{ltb}
-use lib.ListN.{length, drop}
+use lib.ListN.{length}
+use Rattle.fields.specs.Written.{Written, told, written}
 use Rattle.row.specs.Front.{frontOf, sizeOf}
 use Rattle.row.specs.Line.{lineOf}
 
@@ -17,23 +18,8 @@ linesFrom zero address (b ∷ bs) =
 abbrev pub listed : List ℕ → ℕ → List ℕ
 listed program start = linesFrom 0 start program
 
--- the paper's number and its values, and the buffer afterwards
-pub record Listing : Type 0 where
-  pub answer : List ℕ
-  pub buffer : List ℕ
-
-abbrev pub told : List ℕ → List ℕ → Listing
-told answer buffer = record { answer = answer; buffer = buffer }
-
--- "14 writes nothing, an accepted text only its own bytes"
-abbrev pub written : List ℕ → List ℕ → Listing
-written text buffer =
-    cond (ltb (length buffer) (length text))
-    (told (14 ∷ length text ∷ []) buffer)
-    (told (0 ∷ length text ∷ []) (text ++ drop (length text) buffer))
-
 -- "11: start + length above 256", with length and start; "11 precedes 14"
-unfoldable pub listingOf : List ℕ → ℕ → List ℕ → Listing
+unfoldable pub listingOf : List ℕ → ℕ → List ℕ → Written
 listingOf program start buffer =
     cond (ltb 256 (start + length program))
     (told (11 ∷ length program ∷ start ∷ []) buffer)

@@ -1,4 +1,4 @@
--- "Numbers that come back": the paper's number and values of each case of what step, run and load answer.
+-- "Numbers that come back": the paper's number and values of each case of what step, run, load and transfer answer.
 use Prim.Native.Nat.{ℕ}
 use mathlib.Core.List.{List, [], _∷_}
 use Rattle.effect.specs.Numbers.{faultNumber}
@@ -11,8 +11,12 @@ use Rattle.nanocore.specs.declared.answer.StepAnswer.{StepAnswer}
 use Rattle.nanocore.specs.declared.answer.StepAnswer.the-variants.{Stepped, AlreadyHalted, CountFull}
 use Rattle.nanocore.specs.declared.answer.StepOutcome.{StepOutcome}
 use Rattle.nanocore.specs.declared.answer.LoadOutcome.{LoadOutcome}
+use Rattle.nanocore.specs.declared.answer.TransferAnswer.{TransferAnswer}
+use Rattle.nanocore.specs.declared.answer.TransferAnswer.the-variants.{Transferred, NoImage}
+use Rattle.nanocore.specs.declared.answer.TransferOutcome.{TransferOutcome}
 use Rattle.nanocore.specs.Load.{Loading}
 use Rattle.nanocore.specs.Step.{Answered, situated}
+use Rattle.nanocore.specs.Transfer.{Transferring}
 
 abbrev pub stepNumber : StepAnswer → List ℕ
 stepNumber Stepped = 0 ∷ []
@@ -30,6 +34,10 @@ abbrev pub loadNumber : LoadAnswer → List ℕ
 loadNumber Loaded = 0 ∷ []
 loadNumber (TooLong length start) = 11 ∷ length ∷ start ∷ []
 
+abbrev pub transferNumber : TransferAnswer → List ℕ
+transferNumber Transferred = 0 ∷ []
+transferNumber NoImage = 19 ∷ []
+
 -- what a caller has afterwards: the outcome, and the bytes of the lent buffer
 abbrev pub stepping : StepOutcome → List ℕ → Answered
 stepping r output =
@@ -41,3 +49,6 @@ running r output =
 
 abbrev pub loading : LoadOutcome → Loading
 loading r = record { answer = loadNumber (r .answer); machine = r .machine }
+
+abbrev pub transferring : TransferOutcome → Transferring
+transferring r = record { answer = transferNumber (r .answer); machine = r .machine }

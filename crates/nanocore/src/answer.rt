@@ -1,4 +1,4 @@
-// What step, run and load answer. An enum may hold no array, so the machine stands beside the answer.
+// What step, run, load and transfer answer. An enum may hold no array, so the machine stands beside the answer.
 use crate::machine::Machine;
 use effect::Fault;
 
@@ -39,5 +39,15 @@ pub enum LoadAnswer {
 
 pub struct LoadOutcome {
     pub answer: LoadAnswer,
+    pub machine: Machine,
+}
+
+pub enum TransferAnswer {
+    Transferred,
+    NoImage,
+}
+
+pub struct TransferOutcome {
+    pub answer: TransferAnswer,
     pub machine: Machine,
 }

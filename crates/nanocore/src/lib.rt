@@ -10,6 +10,8 @@ pub mod load;
 pub mod run;
 // One instruction.
 pub mod step;
+// The marked bytes of an image into memory.
+pub mod transfer;
 // Up to so many instructions, one after the other: what step and run are made of.
 mod turns;
 // What an effect writes.

@@ -1,9 +1,8 @@
 -- "each line is address, name and operands parted by one space, then LF; registers R0..R15, bytes as 0x and two upper-case digits. The line is
 -- made from the decoded operands."
-use Prim.Native.Nat.{ℕ, _+_, _-_, _/_, _%_}
-use mathlib.Core.Bool.{cond}
-use mathlib.Core.List.{List, [], _∷_, _++_}
-use lib.Dec.{ltb}
+use Prim.Native.Nat.{ℕ}
+use mathlib.Core.List.{List, [], _++_}
+use Rattle.digits.specs.Digit.{pairOf}
 use Rattle.text.specs.Decimal.{decimal}
 use Rattle.text.specs.Text.{codes, lineEnd}
 use Rattle.names.specs.Names.{nameOf}
@@ -12,12 +11,8 @@ use Rattle.instruction.specs.declared.operands.Operands.the-variants.{None, Reg
 use Rattle.row.specs.declared.front.Front.{Front}
 use Rattle.row.specs.declared.front.Front.the-variants.{Whole, Alone}
 
--- an upper-case digit: 0 to 9, then A to F
-abbrev pub digit : ℕ → ℕ
-digit d = cond (ltb d 10) (48 + d) (65 + (d - 10))
-
 abbrev pub byteText : ℕ → List ℕ
-byteText b = codes "0x" ++ (digit (b / 16) ∷ digit (b % 16) ∷ [])
+byteText b = codes "0x" ++ pairOf b
 
 abbrev pub registerText : ℕ → List ℕ
 registerText r = codes "R" ++ decimal r

@@ -1,10 +1,10 @@
 // A line of the listing.
-ghost use Prim.Native.Nat.{_<_};
 ghost use mathlib.Core.Path.{_≡_};
 ghost use Rattle.names.specs.Names.{nameOf};
 ghost use Rattle.text.specs.Lines.{appended, lined};
-ghost use Rattle.row.specs.Line.{byteText, digit as Line·digit, lineOf, operandsText, registerText, then, wordsOf};
+ghost use Rattle.row.specs.Line.{byteText, lineOf, operandsText, registerText, then, wordsOf};
 use crate::front::Front;
+use digits::digit::pair;
 use instruction::operands::Operands;
 use names::name::Name;
 use op::operation::Op;
@@ -67,17 +67,6 @@ fn then_byte(line: Line, b: u8) -> Line
 fn byte(line: Line, b: u8) -> Line
     ensures { λ r. ⌜ r ≡ appended line (byteText b) ⌝ }
 {
-    let digits = [digit(b / 16), digit(b % 16)];
+    let digits = pair(b);
     line.text(b"0x").text(&digits)
-}
-
-fn digit(value: u8) -> u8
-    requires { ⌜ value < 16 ⌝ }
-    ensures { λ r. ⌜ r ≡ Line·digit value ⌝ }
-{
-    if value < 10 {
-        b'0' + value
-    } else {
-        b'A' + (value - 10)
-    }
 }

@@ -2,5 +2,5 @@
 
 // Classes of bytes.
 pub mod class;
-// The first byte of a class, and the last.
+// The first byte of a class, the last, and the end of a line.
 pub mod scan;

@@ -19,7 +19,19 @@ use Rattle.nanocore.specs.declared.answer.RunOutcome.{RunOutcome}
 use Rattle.nanocore.specs.declared.answer.StepAnswer.{StepAnswer}
 use Rattle.nanocore.specs.declared.answer.StepAnswer.the-variants.{Stepped, AlreadyHalted, CountFull}
 use Rattle.nanocore.specs.declared.answer.StepOutcome.{StepOutcome}
-use Rattle.nanocore.specs.Numbers.{stepNumber, runNumber, loadNumber, stepping, running, loading}
+use Rattle.nanocore.specs.declared.answer.TransferAnswer.{TransferAnswer}
+use Rattle.nanocore.specs.declared.answer.TransferAnswer.the-variants.{Transferred, NoImage}
+use Rattle.nanocore.specs.declared.answer.TransferOutcome.{TransferOutcome}
+use Rattle.nanocore.specs.Numbers.{
+  stepNumber,
+  runNumber,
+  loadNumber,
+  transferNumber,
+  stepping,
+  running,
+  loading,
+  transferring,
+}
 
 -- the answer that has this number and these values
 abbrev stepAnswer : List ℕ → StepAnswer
@@ -69,6 +81,13 @@ loadAnswer-number : (a : LoadAnswer) → loadAnswer (loadNumber a) ≡ a
 loadAnswer-number Loaded = refl
 loadAnswer-number (TooLong length start) = refl
 
+abbrev transferAnswer : List ℕ → TransferAnswer
+transferAnswer l = cond (eqb (numberOf l) 0) Transferred NoImage
+
+transferAnswer-number : (a : TransferAnswer) → transferAnswer (transferNumber a) ≡ a
+transferAnswer-number Transferred = refl
+transferAnswer-number NoImage = refl
+
 pub stepNumber-injective : (a b : StepAnswer) → stepNumber a ≡ stepNumber b → a ≡ b
 stepNumber-injective = undone stepNumber stepAnswer stepAnswer-number
 
@@ -78,7 +97,10 @@ runNumber-injective = undone runNumber runAnswer runAnswer-number
 pub loadNumber-injective : (a b : LoadAnswer) → loadNumber a ≡ loadNumber b → a ≡ b
 loadNumber-injective = undone loadNumber loadAnswer loadAnswer-number
 
--- two outcomes, with the bytes that they leave in the buffer, that the promise of step, of run or of load allows are one
+pub transferNumber-injective : (a b : TransferAnswer) → transferNumber a ≡ transferNumber b → a ≡ b
+transferNumber-injective = undone transferNumber transferAnswer transferAnswer-number
+
+-- two outcomes, with the bytes that they leave in the buffer, that the promise of step, of run, of load or of transfer allows are one
 pub step-one :
     (r q : StepOutcome) (out over : List ℕ) → stepping r out ≡ stepping q over → (r ≡ q) × (out ≡ over)
 step-one r q out over e =
@@ -110,4 +132,9 @@ run-one r q out over e =
 pub load-one : (r q : LoadOutcome) → loading r ≡ loading q → r ≡ q
 load-one r q e =
     let answer : r .answer ≡ q .answer = loadNumber-injective (r .answer) (q .answer) (ap (λ x. x .answer) e) in
+    λ i. record { answer = answer i; machine = e i .machine }
+
+pub transfer-one : (r q : TransferOutcome) → transferring r ≡ transferring q → r ≡ q
+transfer-one r q e =
+    let answer : r .answer ≡ q .answer = transferNumber-injective (r .answer) (q .answer) (ap (λ x. x .answer) e) in
     λ i. record { answer = answer i; machine = e i .machine }

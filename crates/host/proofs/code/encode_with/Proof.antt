@@ -4,7 +4,8 @@ use borrow.Author.Needs.{needs}
 use borrow.Author.Tests.{eq-eqb, ne-eqb}
 use Rattle.op.specs.Operations.{formOf}
 use Rattle.instruction.specs.Encode.{encodedOf, formNumber}
-use Rattle.host.specs.Instruction.{encodeWith, given}
+use Rattle.numbers.specs.Operands.{given}
+use Rattle.host.specs.Instruction.{encodeWith}
 use Rattle.host.proofs.code.encode_with.Statement.{statement}
 use Rattle.host.proofs.code.encode_with.Tie as tie
 

@@ -5,8 +5,8 @@ use borrow.Author.Needs.{needs}
 use Rattle.instruction.specs.declared.encode.EncodeAnswer.{EncodeAnswer}
 use Rattle.instruction.specs.declared.encode.EncodeAnswer.the-variants.{Done, OtherForm, NoSuchRegister}
 use Rattle.instruction.specs.Numbers.{encodeNumber}
+use Rattle.numbers.specs.Told.{numberOf, valuesOf}
 use Rattle.host.specs.Instruction.{coded, codedOf}
-use Rattle.host.specs.Told.{numberOf, valuesOf}
 use Rattle.host.proofs.code.nanocore_encode.Statement.{statement}
 use Rattle.host.proofs.code.nanocore_encode.Tie as tie
 

@@ -22,9 +22,10 @@ returns-2 c =
     let args = tested .before .before .before .before .before .args in
     let is = sym (tested .before .is-record .ensures) ∙ not-false _ (tested .if1 .left) in
     let writing = c .before .before .before .write in (
-      load-crosses (now (args .machine)) (now (args .values))
+      load-crosses (now (args .machine))
           is
           (called .before .read .ensures)
+          (now (args .values))
           (now (args .program))
           (args .start)
           (called .load .ensures)

@@ -24,9 +24,10 @@ returns-2 c =
     let args = tested .before .before .before .before .before .before .args in
     let is = sym (tested .before .is-record .ensures) ∙ not-false _ (tested .if1 .left) in
     let writing = c .before .before .before .write in (
-      move-crosses (now (args .machine)) (now (args .values))
+      move-crosses (now (args .machine))
           is
           (reading .read .ensures)
+          (now (args .values))
           (stepOf (now (args .input)))
           (now (args .place))
           (now (args .output))

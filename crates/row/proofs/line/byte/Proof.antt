@@ -1,6 +1,5 @@
 -- The two pieces, put one after the other; the digits are the definition's.
 use mathlib.Core.Path.{_∙_}
-use mathlib.Core.List.{[], _∷_}
 use borrow.Author.Needs.{needs}
 use Rattle.text.specs.Text.{codes}
 use Rattle.text.proofs.LineLaws.{onto}
@@ -10,18 +9,15 @@ use Rattle.row.proofs.line.byte.Tie as tie
 returns : tie.Need-returns
 returns c =
     let first = c .before .before in
-    let digits = first .before .before in
-    let high = digits .before .digit in
-    let low = digits .digit2 in
+    let digits = first .before .before .pair in
     c .text2 .ensures
-    ∙ onto (digits .before .before .args .line) (codes "0x") (high .result ∷ low .result ∷ []) (first .text .ensures)
-    ∙ rw (high .ensures, low .ensures)
+    ∙ onto (first .before .before .before .args .line) (codes "0x") (digits .result) (first .text .ensures)
+    ∙ rw (digits .ensures)
 
 pub byte-spec : {M : Type 1} → statement M
 byte-spec =
     tie.close
     (tie.spec
-    (λ c κs. search needs)
     (λ c κs. search needs)
     (λ c. search needs)
     (λ c κs. search needs)

@@ -1,0 +1,2 @@
+pub mod VerdictLaws
+mod MarkLaws

@@ -1,0 +1,10 @@
+mod SpellBack
+mod RowBack
+mod Stretches
+mod Placing
+mod Lines
+pub mod Refusals
+pub mod AnyOrder
+mod Splices
+pub mod RoundTrip
+pub mod Anywhere

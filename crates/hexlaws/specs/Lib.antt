@@ -1,0 +1,4 @@
+pub mod Bytes
+pub mod Back
+pub mod Order
+pub mod Meaning

@@ -1,0 +1,1 @@
+// Laws of Intel HEX, read and written: nothing that runs.

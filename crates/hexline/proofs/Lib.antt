@@ -1,0 +1,4 @@
+mod SumLaws
+mod SpellLaws
+mod RowLaws
+pub mod LineLaws

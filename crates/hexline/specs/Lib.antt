@@ -1,0 +1,5 @@
+pub mod Spelling
+pub mod Sum
+pub mod Row
+pub mod Line
+pub mod Code
