@@ -1,11 +1,11 @@
-/* NanoCore for C: the proved machine, behind ten functions. Link the archive that `rt staticlib host` writes
+/* NanoCore for C: the proved machine, behind thirteen functions. Link the archive that `rt staticlib host` writes
    (target/staticlib/libhost.a, for x86-64 Linux); examples/c shows how.
 
-   Every function answers on all bytes, lengths and numbers. What it answers is one of document 01's numbers, or 90.
-   The values that come with a number go to values[0] and values[1], 0 for a value that there is not; after 90 they are
-   as they were, like all else. What a function leaves in everything that it is lent is written beside it, and proved
-   (crates/host). It keeps nothing between two calls, reads and writes nothing but what it is lent, and several threads
-   may call at once, each with its own.
+   Every function answers on all bytes, lengths and numbers. What it answers is one of document 01's numbers, one of 19
+   to 26, which came with Intel HEX, or 90. The values that come with a number go to values[0] and values[1], 0 for a
+   value that there is not; after 90 they are as they were, like all else. What a function leaves in everything that it
+   is lent is written beside it, and proved (crates/host). It keeps nothing between two calls, reads and writes nothing
+   but what it is lent, and several threads may call at once, each with its own.
 
    The caller owes what C cannot test: each pointer leads to as many bytes or numbers as its length or its type
    says, is not NULL where the length is not 0, and no two of one call overlap, where one of them is written. */
@@ -48,7 +48,7 @@ enum nanocore_field {
 
 /* The numbers that come back, with their values in order. */
 enum nanocore_answer {
-    NANOCORE_DONE = 0,               /* stepped, or done; of a listing the length of its text */
+    NANOCORE_DONE = 0,               /* stepped, or done; of a listing or written HEX the length of its text */
     NANOCORE_HALTS = 1,              /* a step that executed HLT, or a run's end */
     NANOCORE_ALREADY_HALTED = 2,     /* step alone */
     NANOCORE_INVALID_OPCODE = 3,     /* the opcode; of a step or a run then pc */
@@ -67,6 +67,14 @@ enum nanocore_answer {
     NANOCORE_SHORT_STRING = 16,      /* .STRING with fewer than two quotes: the line */
     NANOCORE_UNKNOWN_OPERATION = 17, /* the line */
     NANOCORE_TOO_MANY_LABELS = 18,   /* a 65th label name: the line */
+    NANOCORE_NO_IMAGE = 19,          /* image or marks are not 256 long */
+    NANOCORE_HEX_SHAPE = 20,         /* no record: the line */
+    NANOCORE_HEX_CHECKSUM = 21,      /* the line */
+    NANOCORE_HEX_OTHER_TYPE = 22,    /* neither 00 nor 01: the line */
+    NANOCORE_HEX_PAST_END = 23,      /* a byte past address 255: the line */
+    NANOCORE_HEX_SET_TWICE = 24,     /* a byte that an earlier line has set: the line */
+    NANOCORE_HEX_NO_END = 25,
+    NANOCORE_HEX_TEXT_AFTER = 26,    /* something behind the end record */
     NANOCORE_NO_MACHINE = 90         /* the bytes are no machine of this build; nothing was changed */
 };
 
@@ -134,6 +142,32 @@ size_t nanocore_list(const uint8_t *program, size_t program_length, uint8_t star
 size_t nanocore_labels(const uint8_t *source, size_t source_length, size_t *count,
                        uint16_t places[64], uint16_t lengths[64], uint8_t addresses[64],
                        size_t values[2]);
+
+/* An image is 256 bytes, one for each address, with a mark each: 0 where the byte is clear, else it is set. Where image
+   or marks have another length the three functions below answer 19 before they look at anything else, and leave image,
+   marks, text and machine as they were. */
+#define NANOCORE_IMAGE 256
+
+/* Reads Intel HEX, records of type 00 and 01, onto an image and its marks. The marks are taken as clear. Afterwards
+   those of the bytes that the text sets are 1 and all others 0, and the other bytes of the image are as they were. What
+   a line and a text are, docs/MACHINE.md says in section 13; the first line is line 1.
+   Answers 0; 19; 20 to 24 with the line; 25 or 26. After all but 0 image and marks are as they were. */
+size_t nanocore_read_hex(const uint8_t *text, size_t text_length,
+                         uint8_t *image, size_t image_length, uint8_t *marks, size_t marks_length,
+                         size_t values[2]);
+
+/* Writes the set bytes of an image as Intel HEX: with rising addresses a record for each unbroken run of them, cut at
+   addresses divisible by 16, in upper case with LF, and then the end record. 3,596 bytes are room for any.
+   Answers 0 with the text's length; 19; or 14 with the length that the text needs. After 0 the text stands first in the
+   buffer, whose other bytes are as they were; after 19 and 14 all are. */
+size_t nanocore_write_hex(const uint8_t *image, size_t image_length, const uint8_t *marks, size_t marks_length,
+                          uint8_t *text, size_t text_length, size_t values[2]);
+
+/* Copies the set bytes of an image into memory, each to its own address. Nothing else is changed: pc stays where it is,
+   and so do halted and count, as with nanocore_load.
+   Answers 0; 19, also where the bytes are no machine; or 90. */
+size_t nanocore_transfer(uint8_t *machine, size_t machine_length,
+                         const uint8_t *image, size_t image_length, const uint8_t *marks, size_t marks_length);
 
 #ifdef __cplusplus
 }

@@ -1,5 +1,6 @@
 /* rule RULE [LIMIT]: runs the rule in the file RULE on the proved machine, with the station's bytes from standard
-   input and at most LIMIT counted steps (0 to 65535; 1024 where it is not given).
+   input and at most LIMIT counted steps (0 to 65535; 1024 where it is not given). A file whose name ends in .hex is
+   Intel HEX, any other holds the rule's bytes.
    Standard output gets exactly the bytes that the rule prints, standard error one line: the verdict, in the words of
    `./nanocore run`, or why there is none. The exit status is 0 after `halted`, 1 after `refused` and 2 otherwise. */
 #include <errno.h>
@@ -136,6 +137,12 @@ static const char *value_name(size_t answer)
         return "sp";
     case NANOCORE_LIMIT_REACHED:
         return "limit";
+    case NANOCORE_HEX_SHAPE:
+    case NANOCORE_HEX_CHECKSUM:
+    case NANOCORE_HEX_OTHER_TYPE:
+    case NANOCORE_HEX_PAST_END:
+    case NANOCORE_HEX_SET_TWICE:
+        return "line";
     default:
         return NULL;
     }
@@ -159,15 +166,38 @@ static int say_ended(size_t answer, const size_t values[2], const uint8_t *machi
     return answer == NANOCORE_HALTS ? HALTED : REFUSED;
 }
 
-/* The verdict on a rule that is longer than the memory: nothing ran. */
-static int say_too_long(size_t answer, const size_t values[2])
+/* The verdict on a rule that is longer than the memory, or on a file that is no Intel HEX: nothing ran. */
+static int say_not_loaded(size_t answer, const size_t values[2])
 {
-    int said = fprintf(stderr, "refused %zu length %zu start %zu\n", answer, values[0], values[1]);
+    const char *name = value_name(answer);
+    int said;
+    if (answer == NANOCORE_TOO_LONG)
+        said = fprintf(stderr, "refused %zu length %zu start %zu\n", answer, values[0], values[1]);
+    else if (name != NULL)
+        said = fprintf(stderr, "refused %zu %s %zu\n", answer, name, values[0]);
+    else
+        said = fprintf(stderr, "refused %zu\n", answer);
     return said < 0 ? NO_VERDICT : REFUSED;
 }
 
-/* A rule from its bytes to its verdict, in a machine of its own. */
-static int run(struct bytes rule, struct bytes input, unsigned limit)
+static int is_hex(const char *name)
+{
+    size_t length = strlen(name);
+    return length > 4 && strcmp(name + length - 4, ".hex") == 0;
+}
+
+/* The bytes that a text of Intel HEX sets, each to its address. A fresh machine's pc is 0: there the rule begins. */
+static size_t load_hex(uint8_t *machine, struct bytes text, size_t values[2])
+{
+    uint8_t image[NANOCORE_IMAGE] = {0}, marks[NANOCORE_IMAGE] = {0};
+    size_t answer = nanocore_read_hex(text.first, text.length, image, sizeof image, marks, sizeof marks, values);
+    if (answer != NANOCORE_DONE)
+        return answer;
+    return nanocore_transfer(machine, NANOCORE_RECORD, image, sizeof image, marks, sizeof marks);
+}
+
+/* A rule from its file's bytes to its verdict, in a machine of its own. */
+static int run(struct bytes rule, int hex, struct bytes input, unsigned limit)
 {
     static uint8_t output[ROOM];
     uint8_t machine[NANOCORE_RECORD];
@@ -176,9 +206,10 @@ static int run(struct bytes rule, struct bytes input, unsigned limit)
     of_machine(nanocore_fresh(machine, sizeof machine));
     put_number(machine + NANOCORE_AT_LIMIT, limit);
 
-    size_t answer = of_machine(nanocore_load(machine, sizeof machine, rule.first, rule.length, 0, values));
+    size_t answer = of_machine(hex ? load_hex(machine, rule, values)
+                                   : nanocore_load(machine, sizeof machine, rule.first, rule.length, 0, values));
     if (answer != NANOCORE_DONE)
-        return say_too_long(answer, values);
+        return say_not_loaded(answer, values);
 
     answer = of_machine(nanocore_run(machine, sizeof machine, input.first, input.length, &place,
                                      output, sizeof output, &written, values));
@@ -194,7 +225,7 @@ int main(int count, char **words)
     unsigned limit = count == 3 ? limit_of(words[2]) : 1024;
     struct bytes rule = read_rule(words[1]);
     struct bytes input = read_all(stdin, "standard input");
-    int status = run(rule, input, limit);
+    int status = run(rule, is_hex(words[1]), input, limit);
     free(rule.first);
     free(input.first);
     return status;

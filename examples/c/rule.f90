@@ -104,6 +104,41 @@ module nanocore
             integer(c_int8_t), intent(out) :: addresses(64)
             integer(c_size_t), intent(out) :: values(2)
         end function
+
+        integer(c_size_t) function nanocore_read_hex(text, text_length, image, image_length, marks, marks_length, &
+                values) bind(C)
+            import
+            integer(c_int8_t), intent(in) :: text(*)
+            integer(c_size_t), value :: text_length
+            integer(c_int8_t), intent(inout) :: image(*)
+            integer(c_size_t), value :: image_length
+            integer(c_int8_t), intent(inout) :: marks(*)
+            integer(c_size_t), value :: marks_length
+            integer(c_size_t), intent(out) :: values(2)
+        end function
+
+        integer(c_size_t) function nanocore_write_hex(image, image_length, marks, marks_length, text, text_length, &
+                values) bind(C)
+            import
+            integer(c_int8_t), intent(in) :: image(*)
+            integer(c_size_t), value :: image_length
+            integer(c_int8_t), intent(in) :: marks(*)
+            integer(c_size_t), value :: marks_length
+            integer(c_int8_t), intent(inout) :: text(*)
+            integer(c_size_t), value :: text_length
+            integer(c_size_t), intent(out) :: values(2)
+        end function
+
+        integer(c_size_t) function nanocore_transfer(machine, machine_length, image, image_length, marks, &
+                marks_length) bind(C)
+            import
+            integer(c_int8_t), intent(inout) :: machine(*)
+            integer(c_size_t), value :: machine_length
+            integer(c_int8_t), intent(in) :: image(*)
+            integer(c_size_t), value :: image_length
+            integer(c_int8_t), intent(in) :: marks(*)
+            integer(c_size_t), value :: marks_length
+        end function
     end interface
 
 contains
@@ -203,9 +238,10 @@ contains
         character(*), parameter :: eol = new_line('a')
         character(*), parameter :: source = 'one:' // eol // 'LDI R5 0x80' // eol // 'last:' // eol // 'HLT' // eol
         character(*), parameter :: listing = '0xFC LDI R5 0x80' // eol // '0xFF HLT' // eol
+        character(*), parameter :: hex = ':0400FC000205800079' // eol // ':00000001FF' // eol
         integer(c_size_t) :: parts(5), length, count
         integer(c_int16_t) :: places(64), lengths(64)
-        integer(c_int8_t) :: program(4), bytes(3), text(100), addresses(64)
+        integer(c_int8_t) :: program(4), bytes(3), text(100), addresses(64), image(0:255), marks(0:255)
 
         program = to_byte([2, 5, 128, 0]) ! LDI R5 0x80, HLT
         answer = nanocore_fresh(machine, machine_length)
@@ -226,6 +262,16 @@ contains
             values)
         call expect('labels', answer == done .and. count == 2)
         call expect('labels', places(2) == 17 .and. lengths(2) == 4 .and. addresses(2) == 3)
+
+        answer = nanocore_read_hex(transfer(hex, text), len(hex, c_size_t), image, 256_c_size_t, marks, 256_c_size_t, &
+            values)
+        call expect('read_hex', answer == done .and. all(image(252:) == program) .and. all(marks(251:) == [0, 1, 1, 1, 1]))
+        answer = nanocore_write_hex(image, 256_c_size_t, marks, 256_c_size_t, text, 100_c_size_t, values)
+        call expect('write_hex', answer == done .and. values(1) == len(hex))
+        call expect('write_hex', all(text(:len(hex)) == transfer(hex, text)))
+        answer = nanocore_fresh(machine, machine_length)
+        answer = nanocore_transfer(machine, machine_length, image, 256_c_size_t, marks, 256_c_size_t)
+        call expect('transfer', answer == done .and. all(machine(at_memory + 252:) == program))
     end subroutine
 
     subroutine expect(what, holds)

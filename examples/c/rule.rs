@@ -47,6 +47,19 @@ mod ffi {
             places: &mut [u16; 64], lengths: &mut [u16; 64], addresses: &mut [u8; 64],
             values: &mut [usize; 2],
         ) -> usize;
+        pub fn nanocore_read_hex(
+            text: *const u8, text_length: usize,
+            image: *mut u8, image_length: usize, marks: *mut u8, marks_length: usize,
+            values: &mut [usize; 2],
+        ) -> usize;
+        pub fn nanocore_write_hex(
+            image: *const u8, image_length: usize, marks: *const u8, marks_length: usize,
+            text: *mut u8, text_length: usize, values: &mut [usize; 2],
+        ) -> usize;
+        pub fn nanocore_transfer(
+            machine: *mut u8, machine_length: usize,
+            image: *const u8, image_length: usize, marks: *const u8, marks_length: usize,
+        ) -> usize;
     }
 
     // The record's length, and where its fields begin.
@@ -61,6 +74,9 @@ mod ffi {
     pub const LIMIT: usize = 12;
     pub const REGISTERS: usize = 24;
     pub const MEMORY: usize = 40;
+
+    // An image's length, and its marks'.
+    pub const IMAGE: usize = 256;
 
     // Two of the answers; the header has them all.
     pub const DONE: usize = 0;
@@ -102,6 +118,16 @@ impl Machine {
             )
         };
         (answer, written)
+    }
+
+    fn transfer(&mut self, image: &[u8], marks: &[u8]) -> usize {
+        let Machine(record) = self;
+        unsafe {
+            ffi::nanocore_transfer(
+                record.as_mut_ptr(), record.len(),
+                image.as_ptr(), image.len(), marks.as_ptr(), marks.len(),
+            )
+        }
     }
 
     /// One step, without input or room for output.
@@ -178,6 +204,26 @@ fn ask_others() {
         )
     };
     assert_eq!((mapped, count, places[1], lengths[1], addresses[1]), (ffi::DONE, 2, 17, 4, 3));
+
+    let hex = b":0400FC000205800079\n:00000001FF\n";
+    let (mut image, mut marks) = ([0; ffi::IMAGE], [0; ffi::IMAGE]);
+    let read = unsafe {
+        ffi::nanocore_read_hex(
+            hex.as_ptr(), hex.len(),
+            image.as_mut_ptr(), image.len(), marks.as_mut_ptr(), marks.len(),
+            &mut values,
+        )
+    };
+    assert_eq!((read, &image[252..], &marks[251..]), (ffi::DONE, &program[..], &[0, 1, 1, 1, 1][..]));
+    let written = unsafe {
+        ffi::nanocore_write_hex(
+            image.as_ptr(), image.len(), marks.as_ptr(), marks.len(),
+            text.as_mut_ptr(), text.len(), &mut values,
+        )
+    };
+    assert_eq!((written, &text[..values[0]]), (ffi::DONE, &hex[..]));
+    assert_eq!(machine.transfer(&image, &marks), ffi::DONE);
+    assert_eq!((&machine.0[ffi::MEMORY + 252..], machine.0[ffi::PC]), (&program[..], 255));
 }
 
 fn main() -> ExitCode {

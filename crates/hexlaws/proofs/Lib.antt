@@ -7,4 +7,5 @@ pub mod Refusals
 pub mod AnyOrder
 mod Splices
 pub mod RoundTrip
+pub mod Callers
 pub mod Anywhere
