@@ -116,11 +116,16 @@ size_t nanocore_run(uint8_t *machine, size_t machine_length,
                     uint8_t *output, size_t output_length, size_t *written,
                     size_t values[2]);
 
-/* What three bytes mean. The parts are opcode, form, first operand, second operand and length. A form's number:
+/* What three bytes mean. The parts are opcode, form, first operand, second operand, length and plain. A form's number:
    0 none; 1 register, value; 2 register, address; 3 register; 4 two registers; 5 address. An operand that the form
-   does not have is 0.
-   Answers 0; or 3, and of the parts all but the opcode are 0. */
-size_t nanocore_decode(uint8_t opcode, uint8_t second, uint8_t third, size_t parts[5]);
+   does not have is 0. Plain is 1 where the bytes are the instruction's plain spelling, the one that nanocore_encode
+   gives, and 0 where they are another: 0D 01 is the plain spelling of INC R1, and 0D F1 is INC R1 too. Where a register
+   stands alone in its byte the high nibble means nothing, and encode puts 0 there. Bytes behind the instruction's
+   length are not looked at.
+   Answers 0; or 3, and of the parts all but the opcode are 0.
+   The sixth part came with this header. A caller that has room for five must be changed, since six are written;
+   nanocore_version, which is the record's, is the same before and after. */
+size_t nanocore_decode(uint8_t opcode, uint8_t second, uint8_t third, size_t parts[6]);
 
 /* The bytes of an instruction, and how many of the three it takes; the others are 0. An operand that the form does
    not have is not looked at.

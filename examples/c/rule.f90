@@ -74,7 +74,7 @@ module nanocore
         integer(c_size_t) function nanocore_decode(opcode, second, third, parts) bind(C)
             import
             integer(c_int8_t), value :: opcode, second, third
-            integer(c_size_t), intent(out) :: parts(5)
+            integer(c_size_t), intent(out) :: parts(6)
         end function
 
         integer(c_size_t) function nanocore_encode(opcode, form, first, second, bytes, length, values) bind(C)
@@ -239,7 +239,7 @@ contains
         character(*), parameter :: source = 'one:' // eol // 'LDI R5 0x80' // eol // 'last:' // eol // 'HLT' // eol
         character(*), parameter :: listing = '0xFC LDI R5 0x80' // eol // '0xFF HLT' // eol
         character(*), parameter :: hex = ':0400FC000205800079' // eol // ':00000001FF' // eol
-        integer(c_size_t) :: parts(5), length, count
+        integer(c_size_t) :: parts(6), length, count
         integer(c_int16_t) :: places(64), lengths(64)
         integer(c_int8_t) :: program(4), bytes(3), text(100), addresses(64), image(0:255), marks(0:255)
 
@@ -251,7 +251,9 @@ contains
         call expect('step', answer == done .and. to_number(machine(at_registers + 5)) == 128)
 
         answer = nanocore_decode(to_byte(2), to_byte(5), to_byte(128), parts)
-        call expect('decode', answer == done .and. all(parts == [2, 1, 5, 128, 3]))
+        call expect('decode', answer == done .and. all(parts == [2, 1, 5, 128, 3, 1]))
+        answer = nanocore_decode(to_byte(13), to_byte(241), to_byte(0), parts) ! INC R1, not in its plain spelling
+        call expect('decode', answer == done .and. all(parts == [13, 3, 1, 0, 2, 0]))
         answer = nanocore_encode(to_byte(2), to_byte(1), to_byte(5), to_byte(128), bytes, length, values)
         call expect('encode', answer == done .and. all(bytes == program(:3)) .and. length == 3)
 

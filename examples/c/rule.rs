@@ -33,7 +33,7 @@ mod ffi {
             output: *mut u8, output_length: usize, written: &mut usize,
             values: &mut [usize; 2],
         ) -> usize;
-        pub fn nanocore_decode(opcode: u8, second: u8, third: u8, parts: &mut [usize; 5]) -> usize;
+        pub fn nanocore_decode(opcode: u8, second: u8, third: u8, parts: &mut [usize; 6]) -> usize;
         pub fn nanocore_encode(
             opcode: u8, form: u8, first: u8, second: u8,
             bytes: &mut [u8; 3], length: &mut usize, values: &mut [usize; 2],
@@ -181,9 +181,11 @@ fn ask_others() {
     assert_eq!((machine.0[ffi::REGISTERS + 5], machine.0[ffi::PC]), (0x80, 255));
     assert_eq!(machine.step(), ffi::HALTS);
 
-    let mut parts = [0; 5];
+    let mut parts = [0; 6];
     assert_eq!(unsafe { ffi::nanocore_decode(0x02, 0x05, 0x80, &mut parts) }, ffi::DONE);
-    assert_eq!(parts, [0x02, 1, 5, 0x80, 3]);
+    assert_eq!(parts, [0x02, 1, 5, 0x80, 3, 1]);
+    assert_eq!(unsafe { ffi::nanocore_decode(0x0D, 0xF1, 0x00, &mut parts) }, ffi::DONE);
+    assert_eq!(parts, [0x0D, 3, 1, 0, 2, 0]); // INC R1, not in its plain spelling
     let (mut bytes, mut length, mut values) = ([0; 3], 0, [0; 2]);
     let encoded = unsafe { ffi::nanocore_encode(0x02, 1, 5, 0x80, &mut bytes, &mut length, &mut values) };
     assert_eq!((encoded, bytes, length), (ffi::DONE, [0x02, 0x05, 0x80], 3));

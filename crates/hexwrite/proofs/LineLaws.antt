@@ -8,7 +8,7 @@ use lib.Seq.{length-take-le}
 use Rattle.text.specs.declared.line.Line.{Line}
 use Rattle.text.specs.Lines.{lined}
 use Rattle.text.specs.Text.{lineEnd}
-use Rattle.text.proofs.LineLaws.{appended-length, holds}
+use Rattle.text.proofs.LineLaws.{Holds, line-holds}
 use Rattle.hexline.specs.Line.{recordOf, wordOf, frontOf, lineOf}
 use Rattle.hexline.specs.Spelling.{digitsOf}
 use Rattle.hexline.specs.Sum.{checksum}
@@ -28,23 +28,6 @@ line-length type address held =
       digits-length (recordOf type address held),
       length-append front (checksum front ∷ []),
     )
-
--- a text stands on a Line whole
-pub record Holds (text : List ℕ) (line : Line) : Type 0 where
-  pub whole : take (line .length) (line .bytes) ≡ text
-  pub size : line .length ≡ length text
-  pub within : line .length ≤ length (line .bytes)
-
-line-holds : (text : List ℕ) {line : Line} → length text ≤ 64 → line ≡ lined text → Holds text line
-line-holds text {line} room e =
-    let whole : take (line .length) (line .bytes) ≡ text = rw e (holds text room) in
-    let size : line .length ≡ length text = rw e (omega (arith, appended-length (replicate 64 0) text 0 (omega arith))) in
-    record {
-      whole = whole;
-      size = size;
-      within =
-          omega (arith, ap length whole, simp length-append at (ap length (take-append-drop (line .length) (line .bytes))));
-    }
 
 -- the record of so many bytes from a place on
 module _ (image : List ℕ) (at n : ℕ) (inside : at + n ≤ length image) where

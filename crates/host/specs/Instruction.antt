@@ -4,6 +4,7 @@ use Prim.Native.Nat.{ℕ}
 use mathlib.Core.Bool.{cond}
 use mathlib.Core.List.{List, [], _∷_}
 use lib.Dec.{eqb}
+use Rattle.byte.specs.Flags.{bit}
 use Rattle.op.specs.declared.operation.Lookup.{Lookup}
 use Rattle.op.specs.declared.operation.Lookup.the-variants.{Found, Unknown}
 use Rattle.op.specs.declared.operation.Op.{Op}
@@ -11,10 +12,11 @@ use Rattle.op.specs.Operations.{decoded, formOf, lengthOf}
 use Rattle.instruction.specs.Decode.{Decoding, decodedOf}
 use Rattle.instruction.specs.Encode.{Encoding, encodedOf, formNumber, noBytes}
 use Rattle.instruction.specs.Operands.{firstOf, secondOf}
+use Rattle.instruction.specs.Plain.{isPlain}
 use Rattle.numbers.specs.Operands.{given}
 use Rattle.numbers.specs.Told.{numberOf, valuesOf}
 
--- after decode: the number, and opcode, form, first operand, second operand and length
+-- after decode: the number, and opcode, form, first operand, second operand, length, and 1 where the bytes are the plain spelling
 pub record Parted : Type 0 where
   pub number : ℕ
   pub parts : List ℕ
@@ -23,13 +25,14 @@ abbrev pub parted : ℕ → List ℕ → Parted
 parted number parts = record { number = number; parts = parts }
 
 -- "3 invalid opcode": the opcode alone, and no more parts
-abbrev pub partsOf : Decoding → ℕ → Parted
-partsOf (Decoding.instruction o a) opcode =
-    parted 0 (opcode ∷ formNumber (formOf o) ∷ firstOf a ∷ secondOf a ∷ lengthOf (formOf o) ∷ [])
-partsOf (Decoding.refused answer) opcode = parted (numberOf answer) (opcode ∷ 0 ∷ 0 ∷ 0 ∷ 0 ∷ [])
+abbrev pub partsOf : Decoding → (opcode two three : ℕ) → Parted
+partsOf (Decoding.instruction o a) opcode two three =
+    let plain = bit (isPlain o a (opcode ∷ two ∷ three ∷ [])) in
+    parted 0 (opcode ∷ formNumber (formOf o) ∷ firstOf a ∷ secondOf a ∷ lengthOf (formOf o) ∷ plain ∷ [])
+partsOf (Decoding.refused answer) opcode two three = parted (numberOf answer) (opcode ∷ 0 ∷ 0 ∷ 0 ∷ 0 ∷ 0 ∷ [])
 
 abbrev pub decodeFrom : (opcode two three : ℕ) → Parted
-decodeFrom opcode two three = partsOf (decodedOf opcode two three) opcode
+decodeFrom opcode two three = partsOf (decodedOf opcode two three) opcode two three
 
 -- "12 operands of another form", and for a number that is no form's
 unfoldable pub encodeWith : Op → (form first second : ℕ) → Encoding

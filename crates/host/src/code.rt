@@ -16,13 +16,13 @@ use numbers::operands::second;
 use op::operation::Lookup;
 use op::operation::Op;
 
-// The parts: opcode, form, first operand, second operand, length.
+// The parts: opcode, form, first operand, second operand, length, and 1 where the bytes are the plain spelling.
 #[no_mangle]
-pub extern "C" fn nanocore_decode(opcode: u8, two: u8, three: u8, parts: &mut [usize; 5]) -> usize
+pub extern "C" fn nanocore_decode(opcode: u8, two: u8, three: u8, parts: &mut [usize; 6]) -> usize
     ensures { λ r. ⌜ parted r (now (parts .exit)) ≡ decodeFrom opcode two three ⌝ }
 {
     match decode(opcode, two, three) {
-        Decoded::Instruction(op, operands) => {
+        Decoded::Instruction(op, operands, plain) => {
             let form = form_number(op.form());
             let length = op.instruction_len();
             let one = first(operands);
@@ -33,11 +33,12 @@ pub extern "C" fn nanocore_decode(opcode: u8, two: u8, three: u8, parts: &mut [u
                 one as usize,
                 other as usize,
                 length as usize,
+                plain as usize,
             ];
             0
         },
         Decoded::Invalid(_) => {
-            *parts = [opcode as usize, 0, 0, 0, 0];
+            *parts = [opcode as usize, 0, 0, 0, 0, 0];
             3
         },
     }

@@ -36,7 +36,7 @@ use Rattle.instruction.specs.Encode.{
   threeBytes,
   encodedOf,
 }
-use Rattle.instruction.specs.Numbers.{decoding, encodeNumber, encoding}
+use Rattle.instruction.specs.Numbers.{decoding, spelling, encodeNumber, encoding}
 
 abbrev formAt : ℕ → Form
 formAt n = getD (Form.None ∷ Form.RegImm ∷ Form.RegAddr ∷ Form.Reg ∷ Form.RegReg ∷ Form.Addr ∷ []) n Form.None
@@ -60,13 +60,13 @@ chosen true true x e = (refl, refl)
 chosen true false x e = (refl, cc)
 chosen false registers x e = (cc, cc)
 
-accepted : (o : Op) (a : Operands) → encodedOf o a .answer ≡ 0 ∷ [] → (shapeOf a ≡ formOf o) × (registersExist a ≡ true)
+pub accepted : (o : Op) (a : Operands) → encodedOf o a .answer ≡ 0 ∷ [] → (shapeOf a ≡ formOf o) × (registersExist a ≡ true)
 unfolding encodedOf
 accepted o a e =
     let tests = chosen (sameForm (shapeOf a) (formOf o)) (registersExist a) (threeBytes o a) e in
     (same-form (shapeOf a) (formOf o) (tests .0), tests .1)
 
-accepts : (o : Op) (a : Operands) → shapeOf a ≡ formOf o → registersExist a ≡ true → encodedOf o a ≡ threeBytes o a
+pub accepts : (o : Op) (a : Operands) → shapeOf a ≡ formOf o → registersExist a ≡ true → encodedOf o a ≡ threeBytes o a
 unfolding encodedOf
 accepts o a e h = rw (eq-eqb (formNumber (shapeOf a)) (formNumber (formOf o)) (ap formNumber e), h)
 
@@ -98,7 +98,7 @@ decoded-encoded o a e =
     rw (accepts o a (tests .0) (tests .1), decoded-byte o, ← tests .0, read-back a (tests .1))
 
 -- operands read by a form have that form, and from a byte no register above 15
-shape-read : (f : Form) (two three : ℕ) → shapeOf (operandsOf f two three) ≡ f
+pub shape-read : (f : Form) (two three : ℕ) → shapeOf (operandsOf f two three) ≡ f
 shape-read Form.None two three = refl
 shape-read Form.Reg two three = refl
 shape-read Form.RegImm two three = refl
@@ -106,7 +106,7 @@ shape-read Form.RegReg two three = refl
 shape-read Form.RegAddr two three = refl
 shape-read Form.Addr two three = refl
 
-registers-read : (f : Form) (two three : ℕ) → two < 256 → registersExist (operandsOf f two three) ≡ true
+pub registers-read : (f : Form) (two three : ℕ) → two < 256 → registersExist (operandsOf f two three) ≡ true
 registers-read Form.None two three h = refl
 registers-read Form.Reg two three h = le-leb (two % 16) 15 (omega arith)
 registers-read Form.RegImm two three h = le-leb (two % 16) 15 (omega arith)
@@ -123,7 +123,7 @@ read-from Unknown one two three o a e = cc
 
 module _ (one two three : ℕ) (o : Op) (a : Operands) (e : decodedOf one two three ≡ instruction o a) where
   -- decoded operands were read by the operation's form
-  read : operandsOf (formOf o) two three ≡ a
+  pub read : operandsOf (formOf o) two three ≡ a
   unfolding decodedOf
   read = read-from (decoded one) one two three o a e
 
@@ -135,12 +135,12 @@ module _ (one two three : ℕ) (o : Op) (a : Operands) (e : decodedOf one two th
   pub encoded-decoded : two < 256 → encodedOf o a .answer ≡ 0 ∷ []
   encoded-decoded h = rw (accepts o a decoded-form (rw (← read) (registers-read (formOf o) two three h)))
 
--- equal numbers and values: equal answers
-pub decoding-injective : (r s : Decoded) → decoding r ≡ decoding s → r ≡ s
-decoding-injective (Instruction o a) (Instruction p b) e = cc
-decoding-injective (Instruction o a) (Invalid c) e = cc
-decoding-injective (Invalid b) (Instruction p a) e = cc
-decoding-injective (Invalid b) (Invalid c) e = cc
+-- equal numbers and values, and the same said of the spelling: equal answers
+pub decoding-injective : (r s : Decoded) → decoding r ≡ decoding s → spelling r ≡ spelling s → r ≡ s
+decoding-injective (Instruction o a plain) (Instruction p b also) e f = cc
+decoding-injective (Instruction o a plain) (Invalid c) e f = cc
+decoding-injective (Invalid b) (Instruction p a plain) e f = cc
+decoding-injective (Invalid b) (Invalid c) e f = cc
 
 -- the answer that has this number
 abbrev isOf : List ℕ → EncodeAnswer → Bool

@@ -1,4 +1,5 @@
 pub mod Operands
 pub mod Decode
 pub mod Encode
+pub mod Plain
 pub mod Numbers

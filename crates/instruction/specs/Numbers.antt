@@ -8,10 +8,15 @@ use Rattle.instruction.specs.declared.encode.EncodeAnswer.the-variants.{
 use Rattle.instruction.specs.declared.encode.Encoded.{Encoded}
 use Rattle.instruction.specs.Decode.{Decoding, instruction, refused}
 use Rattle.instruction.specs.Encode.{Encoding}
+use Rattle.instruction.specs.Plain.{Spelling, spelled, unspelled}
 
 abbrev pub decoding : Decoded → Decoding
-decoding (Instruction o a) = instruction o a
+decoding (Instruction o a plain) = instruction o a
 decoding (Invalid opcode) = refused (3 ∷ opcode ∷ [])
+
+abbrev pub spelling : Decoded → Spelling
+spelling (Instruction o a plain) = spelled plain
+spelling (Invalid opcode) = unspelled
 
 abbrev pub encodeNumber : EncodeAnswer → List ℕ
 encodeNumber Done = 0 ∷ []

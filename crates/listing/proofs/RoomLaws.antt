@@ -4,17 +4,18 @@ use Prim.Native.Nat.{ℕ, zero, suc, _+_, _*_, _-_, _≤_}
 use native.Mathlib.Omega.{arith}
 use lib.ListN.{length, length-append}
 use Rattle.row.specs.Front.{frontOf, sizeOf}
-use Rattle.row.specs.Line.{lineOf}
+use Rattle.row.specs.Line.{lineAt, lineOf}
+use Rattle.row.specs.Walk.{walked}
 use Rattle.row.proofs.RoomLaws.{line-short}
-use Rattle.listing.specs.Listing.{linesFrom, listed}
+use Rattle.listing.specs.Listing.{listed}
 
-lines-few : (listed address : ℕ) (bytes : List ℕ) → length (linesFrom listed address bytes) ≤ 64 * length bytes
-unfolding linesFrom
-lines-few listed address [] = omega arith
-lines-few (suc listed) address (b ∷ bs) = omega (arith, lines-few listed (address + 1) bs)
+lines-few : (passed address : ℕ) (bytes : List ℕ) → length (walked lineAt passed address bytes) ≤ 64 * length bytes
+unfolding walked
+lines-few passed address [] = omega arith
+lines-few (suc passed) address (b ∷ bs) = omega (arith, lines-few passed (address + 1) bs)
 lines-few zero address (b ∷ bs) =
     let front = frontOf (b ∷ bs) in
-    let rest = linesFrom (sizeOf front - 1) (address + 1) bs in
+    let rest = walked lineAt (sizeOf front - 1) (address + 1) bs in
     omega (
       arith,
       length-append (lineOf address front) rest,

@@ -2,16 +2,17 @@
 -- operations determine each other.
 use mathlib.Core.Path.{_≡_, refl, ap}
 use mathlib.Core.List.{List, [], _∷_, map}
-use Prim.Native.Nat.{ℕ, zero, suc, _<_, _≤_}
+use Prim.Native.Nat.{ℕ, zero, suc, _+_, _<_, _≤_}
 use native.Mathlib.Omega.{arith}
 use native.Mathlib.Nat.{le-of-suc-le-suc, not-suc-le-zero}
 use borrow.Author.Tests.{ltb-true}
 use lib.Dec.{ltb}
 use mathlib.Core.Bool.{true}
 use lib.ListN.{length, getD, drop}
+use Rattle.op.specs.declared.form.Form.{Form}
 use Rattle.op.specs.declared.operation.Op.{Op}
 use Rattle.op.specs.declared.operation.Lookup.the-variants.{Found, Unknown}
-use Rattle.op.specs.Operations.{ops, opAt, decoded, byteOf}
+use Rattle.op.specs.Operations.{ops, opAt, decoded, byteOf, lengthOf}
 
 -- a family at each operation of a list
 abbrev pub All : (Op → Type 0) → List Op → Type 0
@@ -95,6 +96,31 @@ decoded-byte = agree (λ o. decoded (byteOf o)) Found refl
 pub byte-below : (o : Op) → byteOf o < 40
 byte-below o = ltb-true (byteOf o) 40 (agree (λ o. ltb (byteOf o) 40) (λ o. true) refl o)
 
+-- an operation is found at its own byte: the forty stand in order of their bytes, which the checker computes
+abbrev numbers : ℕ → List Op → List ℕ
+numbers n [] = []
+numbers n (o ∷ os) = n ∷ numbers (suc n) os
+
+in-order : (os : List Op) (n b : ℕ) (o : Op) → map byteOf os ≡ numbers n os → opAt os b ≡ Found o → byteOf o ≡ n + b
+in-order [] n b o e h = cc
+in-order (p ∷ os) n zero o e h =
+    let first : byteOf p ≡ n = ap (λ l. getD l 0 n) e in
+    let same : p ≡ o = cc in
+    omega (arith, first, ap byteOf same)
+in-order (p ∷ os) n (suc b) o e h = omega (arith, in-order os (suc n) b o (ap (drop 1) e) h)
+
+pub byte-decoded : (b : ℕ) (o : Op) → decoded b ≡ Found o → byteOf o ≡ b
+byte-decoded b o h = omega (arith, in-order ops 0 b o refl h)
+
 -- bytes tell the operations apart
 pub byte-injective : (o p : Op) → byteOf o ≡ byteOf p → o ≡ p
 byte-injective o p e = cc (decoded-byte o, decoded-byte p, ap decoded e)
+
+-- an instruction has one byte at least, and three at most
+pub length-within : (f : Form) → (1 ≤ lengthOf f) × (lengthOf f ≤ 3)
+length-within Form.None = (omega arith, omega arith)
+length-within Form.Reg = (omega arith, omega arith)
+length-within Form.RegImm = (omega arith, omega arith)
+length-within Form.RegReg = (omega arith, omega arith)
+length-within Form.RegAddr = (omega arith, omega arith)
+length-within Form.Addr = (omega arith, omega arith)

@@ -1,11 +1,11 @@
 -- What has room: each line of a listing on a Line, whatever its operands.
-use mathlib.Core.Path.{_≡_, ap}
+use mathlib.Core.Path.{_≡_}
 use mathlib.Core.Bool.{Bool, true, false, cond}
 use mathlib.Core.List.{List, [], _∷_, _++_}
 use Prim.Native.Nat.{ℕ, zero, suc, _/_, _≤_}
 use native.Mathlib.Omega.{arith}
 use lib.Dec.{eqb}
-use lib.ListN.{length, length-append, take, take-append-drop, replicate}
+use lib.ListN.{length, length-append}
 use Rattle.names.proofs.NameLaws.{name-short}
 use Rattle.names.specs.Names.{nameOf}
 use Rattle.instruction.specs.declared.operands.Operands.{Operands}
@@ -14,7 +14,7 @@ use Rattle.text.specs.declared.line.Line.{Line}
 use Rattle.text.specs.Decimal.{decimal, digitsOf, lastDigit}
 use Rattle.text.specs.Lines.{lined}
 use Rattle.text.specs.Text.{lineEnd}
-use Rattle.text.proofs.LineLaws.{appended-length, holds}
+use Rattle.text.proofs.LineLaws.{Holds, line-holds}
 use Rattle.row.specs.declared.front.Front.{Front}
 use Rattle.row.specs.declared.front.Front.the-variants.{Whole, Alone}
 use Rattle.row.specs.Line.{byteText, registerText, then, operandsText, wordsOf, lineOf}
@@ -47,7 +47,7 @@ operands-few (RegAddr r a) = and-word r (then (byteText a)) (omega arith)
 operands-few (Addr a) = omega arith
 
 words-few : (front : Front) → length (wordsOf front) ≤ 50
-words-few (Whole o a) = omega (arith, length-append (then (nameOf o)) (operandsText a), name-short o, operands-few a)
+words-few (Whole o a plain) = omega (arith, length-append (then (nameOf o)) (operandsText a), name-short o, operands-few a)
 words-few (Alone byte) = omega arith
 
 pub line-short : (address : ℕ) (front : Front) → length (lineOf address front) ≤ 64
@@ -60,21 +60,6 @@ line-short address front =
       words-few front,
     )
 
-module _ (address : ℕ) (front : Front) {line : Line} (e : line ≡ lined (lineOf address front)) where
-  line-length : line .length ≡ length (lineOf address front)
-  line-length =
-      let short = line-short address front in
-      rw e (omega (arith, appended-length (replicate 64 0) (lineOf address front) 0 (omega arith)))
-
-  pub line-fits : line .length ≤ 64
-  line-fits = omega (arith, line-length, line-short address front)
-
-  pub line-whole : take (line .length) (line .bytes) ≡ lineOf address front
-  line-whole = rw e (holds (lineOf address front) (line-short address front))
-
-  pub line-taken : line .length ≡ length (take (line .length) (line .bytes))
-  line-taken = rw line-whole line-length
-
-  pub line-within : line .length ≤ length (line .bytes)
-  line-within =
-      omega (arith, line-taken, simp length-append at (ap length (take-append-drop (line .length) (line .bytes))))
+-- so it is on its Line whole
+pub line-whole : (address : ℕ) (front : Front) {line : Line} → line ≡ lined (lineOf address front) → Holds (lineOf address front) line
+line-whole address front = line-holds (lineOf address front) (line-short address front)

@@ -10,6 +10,7 @@ use Rattle.instruction.specs.declared.operands.Operands.{Operands}
 use Rattle.instruction.specs.declared.operands.Operands.the-variants.{None, Reg, RegImm, RegReg, RegAddr, Addr}
 use Rattle.row.specs.declared.front.Front.{Front}
 use Rattle.row.specs.declared.front.Front.the-variants.{Whole, Alone}
+use Rattle.row.specs.Front.{frontOf}
 
 abbrev pub byteText : ℕ → List ℕ
 byteText b = codes "0x" ++ pairOf b
@@ -31,8 +32,12 @@ operandsText (Addr a) = then (byteText a)
 
 -- name and operands, or `.DB` and the byte
 abbrev pub wordsOf : Front → List ℕ
-wordsOf (Whole o a) = then (nameOf o) ++ operandsText a
+wordsOf (Whole o a plain) = then (nameOf o) ++ operandsText a
 wordsOf (Alone byte) = then (codes ".DB") ++ then (byteText byte)
 
 unfoldable pub lineOf : ℕ → Front → List ℕ
 lineOf address front = byteText address ++ wordsOf front ++ lineEnd
+
+-- the line of what the bytes from an address on begin with
+abbrev pub lineAt : ℕ → List ℕ → List ℕ
+lineAt address bytes = lineOf address (frontOf bytes)

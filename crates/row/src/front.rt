@@ -7,9 +7,9 @@ use instruction::decode::decode;
 use instruction::operands::Operands;
 use op::operation::Op;
 
-// An instruction that is there whole, or one byte alone.
+// An instruction that is there whole, with whether it is in plain spelling, or one byte alone.
 pub enum Front {
-    Whole(Op, Operands),
+    Whole(Op, Operands, bool),
     Alone(u8),
 }
 
@@ -20,9 +20,9 @@ impl Front {
     {
         let first = byte_at(bytes, 0);
         match decode(first, byte_at(bytes, 1), byte_at(bytes, 2)) {
-            Decoded::Instruction(op, operands) => {
+            Decoded::Instruction(op, operands, plain) => {
                 if op.instruction_len() as usize <= bytes.len() {
-                    Front::Whole(op, operands)
+                    Front::Whole(op, operands, plain)
                 } else {
                     Front::Alone(first)
                 }
@@ -36,7 +36,7 @@ impl Front {
         ensures { λ r. ⌜ r ≡ sizeOf self ⌝ }
     {
         match self {
-            Front::Whole(op, _) => op.instruction_len() as usize,
+            Front::Whole(op, _, _) => op.instruction_len() as usize,
             Front::Alone(_) => 1,
         }
     }

@@ -24,7 +24,7 @@ fn words(line: Line, front: Front) -> Line
     ensures { λ r. ⌜ r ≡ appended line (wordsOf front) ⌝ }
 {
     match front {
-        Front::Whole(op, operands) => operand_words(name(line, op), operands),
+        Front::Whole(op, operands, _) => operand_words(name(line, op), operands),
         Front::Alone(b) => then_byte(line.text(b" .DB"), b),
     }
 }
@@ -64,7 +64,7 @@ fn then_byte(line: Line, b: u8) -> Line
 }
 
 // 0x and two upper-case digits.
-fn byte(line: Line, b: u8) -> Line
+pub fn byte(line: Line, b: u8) -> Line
     ensures { λ r. ⌜ r ≡ appended line (byteText b) ⌝ }
 {
     let digits = pair(b);

@@ -7,7 +7,7 @@ use native.Mathlib.Nat.{add-zero}
 use native.Mathlib.Numerals.{add-one}
 use native.Mathlib.Omega.{arith}
 use borrow.Author.Tests.{lt-ltb, le-ltb}
-use lib.ListN.{length, length-set, getD, set, take, drop, replicate}
+use lib.ListN.{length, length-append, length-set, getD, set, take, take-append-drop, drop, replicate}
 use lib.Seq.{drop-cons, take-suc-set}
 use Rattle.text.specs.declared.line.Line.{Line}
 use Rattle.text.specs.Lines.{put, appended, lined}
@@ -78,3 +78,20 @@ pub holds : (text : List ℕ) → length text ≤ 64 → take (lined text .lengt
 holds text room =
     rw (appended-length (replicate 64 0) text 0 (omega arith))
     (appended-bytes (replicate 64 0) text 0 (omega arith) refl)
+
+-- a text stands on a line whole
+pub record Holds (text : List ℕ) (line : Line) : Type 0 where
+  pub whole : take (line .length) (line .bytes) ≡ text
+  pub size : line .length ≡ length text
+  pub within : line .length ≤ length (line .bytes)
+
+pub line-holds : (text : List ℕ) {line : Line} → length text ≤ 64 → line ≡ lined text → Holds text line
+line-holds text {line} room e =
+    let whole : take (line .length) (line .bytes) ≡ text = rw e (holds text room) in
+    let size : line .length ≡ length text = rw e (omega (arith, appended-length (replicate 64 0) text 0 (omega arith))) in
+    record {
+      whole = whole;
+      size = size;
+      within =
+          omega (arith, ap length whole, simp length-append at (ap length (take-append-drop (line .length) (line .bytes))));
+    }

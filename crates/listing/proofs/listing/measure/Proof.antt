@@ -5,7 +5,7 @@ use native.Mathlib.Omega.{arith}
 use denote.Ref.{now}
 use borrow.Author.Needs.{needs}
 use lib.ListN.{length, length-append}
-use Rattle.row.proofs.RoomLaws.{line-taken}
+use Rattle.row.proofs.RoomLaws.{line-whole}
 use Rattle.listing.specs.Listing.{listed}
 use Rattle.listing.proofs.WalkLaws.{rest, rest-all, rest-none, rest-turn}
 use Rattle.listing.proofs.listing.measure.Statement.{statement}
@@ -28,9 +28,8 @@ loop-again c =
     let l = c .before .before .before .loop in
     let args = c .before .before .before .before .before .args in
     let row = c .before .of in
-    let line = row .ensures .0 in
-    let turn = rest-turn (now (args .program)) (args .start) (l .at) (c .before .before .loop-test .taken) (row .result) line (row .ensures .1 .0) in
-    (omega arith, omega arith, omega (arith, simp length-append at (ap length turn), line-taken _ _ line))
+    let turn = rest-turn (now (args .program)) (args .start) (l .at) (c .before .before .loop-test .taken) (row .ensures .1 .0) in
+    (omega arith, omega arith, omega (arith, simp length-append at (ap length turn), line-whole _ _ (row .ensures .0) .size))
 
 returns : tie.Need-returns Inv-loop μ-loop
 returns c =

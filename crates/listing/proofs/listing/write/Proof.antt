@@ -1,12 +1,17 @@
 -- Laying what is left behind what is written gives what laying all lines gives.
 use mathlib.Core.Path.{_≡_, refl, sym, _∙_, ap}
-use Prim.Native.Nat.{_*_, _-_, _≤_}
+use mathlib.Core.List.{List, _++_}
+use Prim.Native.Nat.{ℕ, _+_, _*_, _-_, _≤_}
 use native.Mathlib.Omega.{arith}
 use denote.Ref.{now}
 use borrow.Author.Needs.{needs}
-use lib.ListN.{length, take}
+use lib.ListN.{length, drop}
+use lib.Seq.{length-take-le}
 use Rattle.fields.specs.Lay.{laid}
-use Rattle.row.proofs.RoomLaws.{line-taken, line-within}
+use Rattle.text.proofs.LineLaws.{Holds}
+use Rattle.row.specs.Front.{frontOf}
+use Rattle.row.specs.Line.{lineAt}
+use Rattle.row.proofs.RoomLaws.{line-whole}
 use Rattle.listing.specs.Listing.{listed}
 use Rattle.fields.proofs.LaidLaws.{laid-next, laid-whole}
 use Rattle.listing.proofs.WalkLaws.{rest, rest-all, rest-none, rest-turn}
@@ -26,23 +31,35 @@ loop-holds c =
     let args = c .before .before .args in
     (omega arith, omega arith, refl, ap (laid (now (args .buffer)) 0) (rest-all (now (args .program)) (args .start)))
 
+module _ (c : tie.After-of Inv-loop μ-loop) where
+  abbrev program : List ℕ
+  program = now (c .before .before .before .before .before .args .program)
+
+  abbrev start : ℕ
+  start = c .before .before .before .before .before .args .start
+
+  abbrev at : ℕ
+  at = c .before .before .loop .at
+
+  holds : Holds (lineAt (start + at) (drop at program)) (c .of .result .line)
+  holds = line-whole (start + at) (frontOf (drop at program)) (c .of .ensures .0)
+
+  turn : rest program start at ≡ lineAt (start + at) (drop at program) ++ rest program start (c .of .result .next)
+  turn = rest-turn program start at (c .before .loop-test .taken) (c .of .ensures .1 .0)
+
 loop-again : tie.Need-loop-again Inv-loop μ-loop
 loop-again c =
     let laying = c .before .before in
     let found = laying .before .before .before .before in
     let l = found .before .before .loop in
-    let args = found .before .before .before .before .before .args in
-    let program = now (args .program) in
-    let row = found .of in
-    let line = row .result .line in
-    let left = rest program (args .start) (row .result .next) in
-    let turn = rest-turn program (args .start) (l .at) (found .before .loop-test .taken) (row .result) (row .ensures .0) (row .ensures .1 .0) in (
+    let line = lineAt (start found + at found) (drop (at found) (program found)) in
+    let left = rest (program found) (start found) (found .of .result .next) in (
       omega arith,
       omega arith,
       c .before .buffer .given ∙ l .inv .2,
-      rw (laying .lay .ensures)
-          (laid-next (l .buffer) (l .place) (take (line .length) (line .bytes)) left (line-taken _ _ (row .ensures .0))
-          ∙ sym (ap (laid (l .buffer) (l .place)) turn)
+      rw (laying .lay .ensures, holds found .whole)
+          (laid-next (l .buffer) (l .place) line left (holds found .size)
+          ∙ sym (ap (laid (l .buffer) (l .place)) (turn found))
           ∙ l .inv .3),
     )
 
@@ -61,8 +78,8 @@ write-spec =
     μ-loop
     loop-holds
     (λ c κs. search needs)
-    (λ c. line-within _ _ (c .before .before .of .ensures .0))
-    (λ c. line-taken _ _ (c .before .before .before .of .ensures .0))
+    (λ c. holds (c .before .before) .within)
+    (λ c. sym (length-take-le _ _ (holds (c .before .before .before) .within)))
     (λ c κs. search needs)
     (λ c. search needs)
     (λ c. search needs)

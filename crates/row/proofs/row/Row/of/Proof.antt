@@ -12,7 +12,7 @@ use Rattle.row.specs.declared.front.Front.{Front}
 use Rattle.row.specs.Front.{frontOf, sizeOf}
 use Rattle.row.specs.Line.{lineOf}
 use Rattle.row.proofs.FrontLaws.{goes-on}
-use Rattle.row.proofs.RoomLaws.{line-fits}
+use Rattle.row.proofs.RoomLaws.{line-short, line-whole}
 use Rattle.row.proofs.row.Row.of.Statement.{statement}
 use Rattle.row.proofs.row.Row.of.Tie as tie
 
@@ -36,7 +36,8 @@ returns c =
     let line = c .before .line .ensures ∙ ap (λ f. lined (lineOf (args .start + args .at) f)) front in
     let next = ap (λ n. args .at + n) (c .size .ensures ∙ ap sizeOf front) in
     let on = goes-on program (args .at) (omega arith) _ next in
-    (line, (next, (line-fits _ _ line, on)))
+    let address = args .start + args .at in
+    (line, (next, (omega (arith, line-whole address _ line .size, line-short address (frontOf (drop (args .at) program))), on)))
 
 pub of-spec : {M : Type 1} → statement M
 of-spec =

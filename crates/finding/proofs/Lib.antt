@@ -1,0 +1,2 @@
+pub mod RoomLaws
+mod SpacedLaws
