@@ -133,8 +133,9 @@ size_t nanocore_decode(uint8_t opcode, uint8_t second, uint8_t third, size_t par
 size_t nanocore_encode(uint8_t opcode, uint8_t form, uint8_t first, uint8_t second,
                        uint8_t bytes[3], size_t *length, size_t values[2]);
 
-/* A program in words, a line for each instruction, as it stands from the start address on. 16,384 bytes are room for
-   any.
+/* A program in words, a line for each instruction, as it stands from the start address on. What is not in plain
+   spelling is .DB with all its bytes, so where two texts of one start are equal, the programs are. 16,384 bytes are
+   room for any.
    Answers 0 with the text's length; 11 with the program's length and the start; 14 with the length that the text
    needs. After 0 the text stands first in the buffer, whose other bytes are as they were; after 11 and 14 all are. */
 size_t nanocore_list(const uint8_t *program, size_t program_length, uint8_t start,

@@ -1,2 +1,3 @@
 pub mod UnhexLaws
 pub mod Inside
+pub mod DigitLaws

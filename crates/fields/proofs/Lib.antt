@@ -4,3 +4,5 @@ pub mod LayLaws
 pub mod LaidLaws
 pub mod OverlayLaws
 pub mod ApartLaws
+pub mod BytesLaws
+pub mod WrittenLaws

@@ -3,3 +3,4 @@ pub mod Lay
 pub mod Overlay
 pub mod Written
 pub mod Apart
+pub mod Bytes

@@ -13,9 +13,9 @@ use Rattle.instruction.specs.Encode.{Encoding, encodedOf, noBytes, registersExi
 use Rattle.text.specs.declared.line.Line.{Line}
 use Rattle.text.specs.Lines.{lined}
 use Rattle.text.proofs.LineLaws.{Holds, line-holds}
-use Rattle.row.specs.declared.front.Front.{Front}
-use Rattle.row.specs.declared.front.Front.the-variants.{Whole, Alone}
-use Rattle.row.specs.Front.{frontOf}
+use Rattle.front.specs.declared.front.Front.{Front}
+use Rattle.front.specs.declared.front.Front.the-variants.{Whole, Alone}
+use Rattle.front.specs.Front.{frontOf}
 use Rattle.finding.specs.Found.{foundAt, foundBy}
 use Rattle.finding.specs.Line.{lineOf, linesOf}
 use Rattle.finding.proofs.SpacedLaws.{spaced-length}

@@ -7,7 +7,7 @@ use native.Mathlib.Omega.{arith}
 use lib.ListN.{length, getD, drop}
 use lib.Seq.{drop-cons}
 use Rattle.digits.specs.Digit.{pairOf}
-use Rattle.row.specs.Line.{then}
+use Rattle.front.specs.Line.{then}
 use Rattle.finding.specs.Line.{spaced}
 
 pub spaced-next :

@@ -4,9 +4,9 @@ use mathlib.Core.Bool.{Bool, cond}
 use mathlib.Core.List.{List, [], _∷_}
 use lib.ListN.{take}
 use Rattle.instruction.specs.Encode.{encodedOf}
-use Rattle.row.specs.declared.front.Front.{Front}
-use Rattle.row.specs.declared.front.Front.the-variants.{Whole, Alone}
-use Rattle.row.specs.Front.{frontOf, sizeOf}
+use Rattle.front.specs.declared.front.Front.{Front}
+use Rattle.front.specs.declared.front.Front.the-variants.{Whole, Alone}
+use Rattle.front.specs.Front.{frontOf, sizeOf}
 
 pub record Found : Type 0 where
   pub address : ℕ

@@ -4,7 +4,7 @@ use mathlib.Core.Bool.{cond}
 use mathlib.Core.List.{List, [], _∷_, _++_}
 use Rattle.digits.specs.Digit.{pairOf}
 use Rattle.text.specs.Text.{codes, lineEnd}
-use Rattle.row.specs.Line.{byteText, then}
+use Rattle.front.specs.Line.{byteText, then}
 use Rattle.finding.specs.Found.{Found}
 
 -- each byte behind a space, as two upper-case digits

@@ -3,11 +3,11 @@ ghost use Prim.Native.Nat.{_+_, _≤_, _<_};
 ghost use mathlib.Core.Path.{_≡_};
 ghost use lib.ListN.{length, drop};
 ghost use Rattle.text.specs.Lines.{lined};
-ghost use Rattle.row.specs.Front.{frontOf, sizeOf};
+ghost use Rattle.front.specs.Front.{frontOf, sizeOf};
 ghost use Rattle.finding.specs.Found.{foundAt, plainIn};
 ghost use Rattle.finding.specs.Line.{linesOf};
 use crate::line::line;
-use row::front::Front;
+use front::front::Front;
 use text::line::Line;
 
 // The line that is said, empty where there is none to say; 1 for an instruction, and 1 for one in plain spelling; and the place of the next.

@@ -12,37 +12,28 @@ use Rattle.scan.specs.declared.class.Class.the-variants.{Is}
 use Rattle.scan.specs.Class.{passes}
 use Rattle.scan.specs.Scan.{first}
 use Rattle.fields.specs.Overlay.{overlaid}
+use Rattle.fields.specs.Bytes.{Bytes}
+use Rattle.fields.proofs.BytesLaws.{bytes-drop, bytes-take}
 use Rattle.fields.proofs.OverlayLaws.{overlaid-length}
 use Rattle.text.specs.Text.{lineEnd}
+use Rattle.text.proofs.WordLaws.{Above}
 use Rattle.hexline.specs.Line.{wordOf, lineOf}
 use Rattle.hexline.specs.Spelling.{digitsOf}
 use Rattle.hexread.specs.File.{Sheet, sheet, filled, placed, turn, accepted, toldBy, linesFrom, readingOf}
 use Rattle.hexwrite.specs.Writer.{run, textOf}
 use Rattle.hexwrite.proofs.RunLaws.{run-short, run-within, run-set, run-unset}
 use Rattle.hexwrite.proofs.WalkLaws.{rest, text-rest, rest-none, rest-clear, rest-run}
-use Rattle.hexlaws.specs.Bytes.{Bytes}
 use Rattle.hexlaws.specs.Back.{onesOf, backOf}
-use Rattle.hexlaws.proofs.SpellBack.{Solid}
 use Rattle.hexlaws.proofs.RowBack.{word-solid, word-row, end-row}
 use Rattle.hexlaws.proofs.Placing.{Fits}
 use Rattle.hexlaws.proofs.Lines.{line-joined, line-fills}
 use Rattle.hexlaws.proofs.Splices.{spliced, splice-same, splice-run, splice-behind, splice-all}
 
 -- a text without blanks holds no LF
-solid-line : (l : List ℕ) → Solid l → first (Is 0x0a) l ≡ length l
+solid-line : (l : List ℕ) → Above 47 l → first (Is 0x0a) l ≡ length l
 unfolding first passes
 solid-line [] solid = refl
 solid-line (b ∷ l) solid = rw (ne-eqb b 0x0a (λ e. omega (arith, solid .0, e))) (ap suc (solid-line l (solid .1)))
-
-bytes-drop : (a : ℕ) (l : List ℕ) → Bytes l → Bytes (drop a l)
-bytes-drop zero l are = are
-bytes-drop (suc a) [] are = tt
-bytes-drop (suc a) (b ∷ l) are = bytes-drop a l (are .1)
-
-bytes-take : (n : ℕ) (l : List ℕ) → Bytes l → Bytes (take n l)
-bytes-take zero l are = tt
-bytes-take (suc n) [] are = tt
-bytes-take (suc n) (b ∷ l) are = (are .0, bytes-take n l (are .1))
 
 ones-length : (marks : List ℕ) → length (onesOf marks) ≡ length marks
 unfolding onesOf

@@ -11,23 +11,21 @@ use Rattle.hexline.specs.Line.{frontOf, recordOf, wordOf}
 use Rattle.hexline.specs.Row.{fills, ends, rowSpelled, rowBy, rowOf, withoutReturn}
 use Rattle.hexline.specs.Spelling.{spelled, digitsOf}
 use Rattle.hexline.specs.Sum.{total, checksum}
-use Rattle.hexlaws.specs.Bytes.{Bytes}
-use Rattle.hexlaws.proofs.SpellBack.{Solid, spelled-back, digits-solid}
-
-bytes-append : (a b : List ℕ) → Bytes a → Bytes b → Bytes (a ++ b)
-bytes-append [] b is are = are
-bytes-append (x ∷ a) b is are = (is .0, bytes-append a b (is .1) are)
+use Rattle.fields.specs.Bytes.{Bytes}
+use Rattle.fields.proofs.BytesLaws.{bytes-append}
+use Rattle.text.proofs.WordLaws.{Above}
+use Rattle.hexlaws.proofs.SpellBack.{spelled-back, digits-solid}
 
 total-append : (a b : List ℕ) → total (a ++ b) ≡ total a + total b
 total-append [] b = omega arith
 total-append (x ∷ a) b = omega (arith, total-append a b)
 
-no-return : (l : List ℕ) → Solid l → (k : ℕ) → getD l k 0 ≡ 0x0d → ⊥
+no-return : (l : List ℕ) → Above 47 l → (k : ℕ) → getD l k 0 ≡ 0x0d → ⊥
 no-return [] solid k e = omega (arith, e)
 no-return (b ∷ l) solid zero e = omega (arith, solid .0, e)
 no-return (b ∷ l) solid (suc k) e = no-return l (solid .1) k e
 
-whole-line : (l : List ℕ) → Solid l → withoutReturn l ≡ l
+whole-line : (l : List ℕ) → Above 47 l → withoutReturn l ≡ l
 whole-line l solid = rw (ne-eqb (getD l (length l - 1) 0) 0x0d (no-return l solid (length l - 1)))
 
 sum-0 : (t : ℕ) → (t + (256 - t % 256) % 256) % 256 ≡ 0
@@ -38,8 +36,8 @@ module _ (address : ℕ) (held : List ℕ) (low : address < 65536) (few : length
   record-bytes =
       bytes-append (frontOf 0 address held) (checksum (frontOf 0 address held) ∷ []) (few, (omega arith, (omega arith, (omega arith, are)))) (omega arith, tt)
 
-  pub word-solid : Solid (wordOf 0 address held)
-  word-solid = (omega arith, digits-solid (recordOf 0 address held) record-bytes)
+  pub word-solid : Above 47 (wordOf 0 address held)
+  word-solid = (omega arith, digits-solid (recordOf 0 address held))
 
   record-row : rowBy (recordOf 0 address held) ≡ fills address held
   unfolding rowBy

@@ -1,4 +1,3 @@
-pub mod Bytes
 pub mod Back
 pub mod Order
 pub mod Meaning

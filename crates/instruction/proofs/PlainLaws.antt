@@ -21,7 +21,7 @@ use Rattle.instruction.specs.Plain.{Spelling, spelled, isPlain, loneRegi
 use Rattle.instruction.proofs.Laws.{accepted, accepts, decodedBytes, decoded-encoded, read, registers-read, shape-read}
 
 -- what is the same over a length is one list up to there, and a list is the same as itself
-same-over : (n : ℕ) (s t : List ℕ) → sameOver n s t ≡ true → take n s ≡ take n t
+pub same-over : (n : ℕ) (s t : List ℕ) → sameOver n s t ≡ true → take n s ≡ take n t
 same-over zero s t e = refl
 same-over (suc n) [] t e = cc
 same-over (suc n) (a ∷ s) [] e = cc

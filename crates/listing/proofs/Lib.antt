@@ -1,3 +1,4 @@
 pub mod AnswerLaws
 pub mod RoomLaws
 mod WalkLaws
+pub mod Callers

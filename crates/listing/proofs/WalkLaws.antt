@@ -4,11 +4,11 @@ use mathlib.Core.List.{List, [], _++_}
 use Prim.Native.Nat.{ℕ, _+_, _≤_, _<_}
 use native.Mathlib.Omega.{arith}
 use lib.ListN.{length, drop}
-use Rattle.row.specs.Front.{frontOf, sizeOf}
-use Rattle.row.specs.Line.{lineAt}
-use Rattle.row.specs.Walk.{walked}
-use Rattle.row.proofs.WalkLaws.{walk-none, walk-turn}
-use Rattle.listing.specs.Listing.{listed}
+use Rattle.front.specs.Front.{frontOf, sizeOf}
+use Rattle.front.specs.Line.{lineAt}
+use Rattle.front.specs.Listed.{listed}
+use Rattle.front.specs.Walk.{walked}
+use Rattle.front.proofs.WalkLaws.{walk-none, walk-turn}
 
 abbrev pub rest : List ℕ → ℕ → ℕ → List ℕ
 rest program start at = walked lineAt 0 (start + at) (drop at program)

@@ -1,15 +1,11 @@
--- "Listing of a program at a start address": its lines one after the other, and what a lent buffer then holds.
+-- "Listing of a program at a start address": what a lent buffer holds when it is listed.
 use Prim.Native.Nat.{ℕ, _+_}
 use mathlib.Core.Bool.{cond}
 use mathlib.Core.List.{List, [], _∷_}
 use lib.Dec.{ltb}
 use lib.ListN.{length}
 use Rattle.fields.specs.Written.{Written, told, written}
-use Rattle.row.specs.Line.{lineAt}
-use Rattle.row.specs.Walk.{walked}
-
-abbrev pub listed : List ℕ → ℕ → List ℕ
-listed program start = walked lineAt 0 start program
+use Rattle.front.specs.Listed.{listed}
 
 -- "11: start + length above 256", with length and start; "11 precedes 14"
 unfoldable pub listingOf : List ℕ → ℕ → List ℕ → Written

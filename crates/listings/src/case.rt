@@ -9,7 +9,7 @@ use listing::listing::list;
 pub const ROOM: usize = 4096;
 
 // What the buffer holds before: no byte of a text.
-const BEFORE: u8 = 0xA5;
+pub const BEFORE: u8 = 0xA5;
 
 // The headline, the answer's number and values, the text, and whether the bytes behind it are as before.
 pub fn run(headline: &[u8], program: &[u8], start: u8, room: usize) {

@@ -10,10 +10,14 @@ pub fn line(bytes: &[u8]) {
     text(b"\n");
 }
 
+pub fn decimal(n: usize) {
+    io::print_decimal(STDOUT_FILENO, n as u64);
+}
+
 // A number, with a space before it.
 pub fn number(n: usize) {
     text(b" ");
-    io::print_decimal(STDOUT_FILENO, n as u64);
+    decimal(n);
 }
 
 // So many bytes from the start on.

@@ -76,6 +76,10 @@ pub named-name : (o : Op) → named (nameOf o) ≡ Found o
 unfolding named
 named-name = agree (λ o. named (nameOf o)) Found refl
 
+-- so names tell the operations apart
+pub name-injective : (o p : Op) → nameOf o ≡ nameOf p → o ≡ p
+name-injective o p e = cc (named-name o, named-name p, ap named e)
+
 -- whichever of two places the operation was found at, the text is its name
 picked :
     (b : Bool) (t : List ℕ) (p o : Op) (rest : Lookup) → (b ≡ true → t ≡ nameOf p) → (rest ≡ Found o → t ≡ nameOf o) →

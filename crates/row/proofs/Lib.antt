@@ -1,3 +1,2 @@
-pub mod FrontLaws
+mod BytesTextLaws
 pub mod RoomLaws
-pub mod WalkLaws

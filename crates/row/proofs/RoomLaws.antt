@@ -1,11 +1,13 @@
--- What has room: each line of a listing on a Line, whatever its operands.
+-- What has room: each line of a listing on a Line, whatever its operands and its bytes.
 use mathlib.Core.Path.{_≡_}
 use mathlib.Core.Bool.{Bool, true, false, cond}
 use mathlib.Core.List.{List, [], _∷_, _++_}
 use Prim.Native.Nat.{ℕ, zero, suc, _/_, _≤_}
 use native.Mathlib.Omega.{arith}
 use lib.Dec.{eqb}
-use lib.ListN.{length, length-append}
+use lib.ListN.{length, length-append, length-take, take}
+use Rattle.op.specs.Operations.{formOf, lengthOf}
+use Rattle.op.proofs.Laws.{length-within}
 use Rattle.names.proofs.NameLaws.{name-short}
 use Rattle.names.specs.Names.{nameOf}
 use Rattle.instruction.specs.declared.operands.Operands.{Operands}
@@ -13,11 +15,13 @@ use Rattle.instruction.specs.declared.operands.Operands.the-variants.{None, Reg
 use Rattle.text.specs.declared.line.Line.{Line}
 use Rattle.text.specs.Decimal.{decimal, digitsOf, lastDigit}
 use Rattle.text.specs.Lines.{lined}
-use Rattle.text.specs.Text.{lineEnd}
+use Rattle.text.specs.Text.{codes, lineEnd}
 use Rattle.text.proofs.LineLaws.{Holds, line-holds}
-use Rattle.row.specs.declared.front.Front.{Front}
-use Rattle.row.specs.declared.front.Front.the-variants.{Whole, Alone}
-use Rattle.row.specs.Line.{byteText, registerText, then, operandsText, wordsOf, lineOf}
+use Rattle.front.specs.declared.front.Front.{Front}
+use Rattle.front.specs.declared.front.Front.the-variants.{Whole, Alone}
+use Rattle.front.specs.Front.{frontOf}
+use Rattle.front.specs.Line.{byteText, bytesText, registerText, then, operandsText, wordsOf, lineOf, lineAt}
+use Rattle.row.proofs.BytesTextLaws.{bytes-length}
 
 -- a digit more behind the others, or none
 one-more : (none : Bool) (digits : List ℕ) (d k : ℕ) → length digits ≤ k → length (cond none [] (digits ++ (d ∷ []))) ≤ suc k
@@ -46,20 +50,31 @@ operands-few (RegReg d s) = and-word d (then (registerText s)) (register-few s)
 operands-few (RegAddr r a) = and-word r (then (byteText a)) (omega arith)
 operands-few (Addr a) = omega arith
 
-words-few : (front : Front) → length (wordsOf front) ≤ 50
-words-few (Whole o a plain) = omega (arith, length-append (then (nameOf o)) (operandsText a), name-short o, operands-few a)
-words-few (Alone byte) = omega arith
-
-pub line-short : (address : ℕ) (front : Front) → length (lineOf address front) ≤ 64
-unfolding lineOf
-line-short address front =
+words-few : (front : Front) (bytes : List ℕ) → length (wordsOf front bytes) ≤ 50
+words-few (Whole o a true) bytes = omega (arith, length-append (then (nameOf o)) (operandsText a), name-short o, operands-few a)
+words-few (Whole o a false) bytes =
+    let said = take (lengthOf (formOf o)) bytes in
     omega (
       arith,
-      length-append (byteText address ++ wordsOf front) lineEnd,
-      length-append (byteText address) (wordsOf front),
-      words-few front,
+      length-append (then (codes ".DB")) (bytesText said),
+      bytes-length said,
+      length-take (lengthOf (formOf o)) bytes,
+      length-within (formOf o) .1,
+    )
+words-few (Alone byte) bytes = omega arith
+
+pub line-short : (address : ℕ) (bytes : List ℕ) → length (lineAt address bytes) ≤ 64
+unfolding lineOf
+line-short address bytes =
+    let words = wordsOf (frontOf bytes) bytes in
+    omega (
+      arith,
+      length-append (byteText address ++ words) lineEnd,
+      length-append (byteText address) words,
+      words-few (frontOf bytes) bytes,
     )
 
 -- so it is on its Line whole
-pub line-whole : (address : ℕ) (front : Front) {line : Line} → line ≡ lined (lineOf address front) → Holds (lineOf address front) line
-line-whole address front = line-holds (lineOf address front) (line-short address front)
+pub line-whole :
+    (address : ℕ) (bytes : List ℕ) {line : Line} → line ≡ lined (lineAt address bytes) → Holds (lineAt address bytes) line
+line-whole address bytes = line-holds (lineAt address bytes) (line-short address bytes)

@@ -1,8 +1,6 @@
-// One line of a listing: an instruction of a program, or a byte that begins none.
+// One line of a listing, written.
 
-// What the line stands for.
-pub mod front;
-// The line.
+// The line of what the bytes begin with.
 pub mod line;
 // The line at a place of the program.
 pub mod row;

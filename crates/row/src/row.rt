@@ -3,10 +3,10 @@ ghost use Prim.Native.Nat.{_+_, _≤_, _<_};
 ghost use mathlib.Core.Path.{_≡_};
 ghost use lib.ListN.{length, drop};
 ghost use Rattle.text.specs.Lines.{lined};
-ghost use Rattle.row.specs.Front.{frontOf, sizeOf};
-ghost use Rattle.row.specs.Line.{lineOf};
-use crate::front::Front;
+ghost use Rattle.front.specs.Front.{frontOf, sizeOf};
+ghost use Rattle.front.specs.Line.{lineAt};
 use crate::line::line;
+use front::front::Front;
 use text::line::Line;
 
 // The line, and the place of the byte that the next one begins with.
@@ -19,15 +19,16 @@ impl Row {
     pub fn of(program: &[u8], start: u8, at: usize) -> Row
         requires { ⌜ start + length (now program) ≤ 256 ⌝ }
         requires { ⌜ at < length (now program) ⌝ }
-        ensures { λ r. ⌜ r .line ≡ lined (lineOf (start + at) (frontOf (drop at (now (program .entry))))) ⌝ }
+        ensures { λ r. ⌜ r .line ≡ lined (lineAt (start + at) (drop at (now (program .entry)))) ⌝ }
         ensures { λ r. ⌜ r .next ≡ at + sizeOf (frontOf (drop at (now (program .entry)))) ⌝ }
         ensures { λ r. ⌜ r .line .length ≤ 64 ⌝ }
         ensures { λ r. ⌜ at < r .next ⌝ }
         ensures { λ r. ⌜ r .next ≤ length (now (program .entry)) ⌝ }
     {
-        let front = Front::of(&program[at..]);
+        let bytes = &program[at..];
+        let front = Front::of(bytes);
         Row {
-            line: line(start + at as u8, front),
+            line: line(start + at as u8, front, bytes),
             next: at + front.size(),
         }
     }

@@ -9,10 +9,10 @@ use Rattle.text.specs.declared.line.Line.{Line}
 use Rattle.text.specs.Lines.{lined}
 use Rattle.text.proofs.LineLaws.{Holds, line-holds}
 use Rattle.text.proofs.DecimalLaws.{few-digits}
-use Rattle.row.specs.declared.front.Front.{Front}
-use Rattle.row.specs.declared.front.Front.the-variants.{Whole, Alone}
-use Rattle.row.specs.Front.{frontOf, sizeOf}
-use Rattle.row.specs.Walk.{walked}
+use Rattle.front.specs.declared.front.Front.{Front}
+use Rattle.front.specs.declared.front.Front.the-variants.{Whole, Alone}
+use Rattle.front.specs.Front.{frontOf, sizeOf}
+use Rattle.front.specs.Walk.{walked}
 use Rattle.finding.specs.Found.{Found, foundAt, foundBy, plainIn}
 use Rattle.finding.specs.Line.{linesOf}
 use Rattle.finding.proofs.RoomLaws.{lines-short}

@@ -5,9 +5,9 @@ use mathlib.Core.List.{List, [], _∷_, _++_, append-assoc}
 use Prim.Native.Nat.{ℕ, _+_, _≤_, _<_}
 use native.Mathlib.Omega.{arith}
 use lib.ListN.{length, length-append, drop}
-use Rattle.row.specs.Front.{frontOf, sizeOf}
-use Rattle.row.specs.Walk.{walked}
-use Rattle.row.proofs.WalkLaws.{walk-none, walk-turn}
+use Rattle.front.specs.Front.{frontOf, sizeOf}
+use Rattle.front.specs.Walk.{walked}
+use Rattle.front.proofs.WalkLaws.{walk-none, walk-turn}
 use Rattle.finding.specs.Found.{Found, foundAt, plainIn}
 use Rattle.finding.specs.Line.{lineOf, linesOf}
 

@@ -7,7 +7,7 @@ use lib.ListN.{length}
 use Rattle.fields.specs.Written.{Written, told, written}
 use Rattle.text.specs.Decimal.{decimal}
 use Rattle.text.specs.Text.{codes, lineEnd}
-use Rattle.row.specs.Walk.{walked}
+use Rattle.front.specs.Walk.{walked}
 use Rattle.finding.specs.Found.{Found, foundAt, plainIn}
 use Rattle.finding.specs.Line.{linesOf}
 

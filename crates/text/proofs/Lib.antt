@@ -3,3 +3,4 @@ pub mod NumberLaws
 pub mod DecimalLaws
 pub mod ReadBack
 pub mod PieceLaws
+pub mod WordLaws

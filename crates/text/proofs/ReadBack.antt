@@ -44,3 +44,7 @@ unfolding numeral valueFrom
 read-back n h =
     ap numeral (decimal-before n) ∙
     (before-read 19 (n / 10) ((48 + n % 10) ∷ []) (omega arith) (omega arith) (λ none. refl) ∙ digit-read n [] h)
+
+-- so the digits tell the number
+pub decimal-injective : (n m : ℕ) → n ≤ 65535 → m ≤ 65535 → decimal n ≡ decimal m → n ≡ m
+decimal-injective n m h k e = let same : Number n ≡ Number m = cc (read-back n h, read-back m k, ap numeral e) in cc

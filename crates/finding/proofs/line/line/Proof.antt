@@ -9,7 +9,7 @@ use Rattle.text.specs.Lines.{appended, emptyLine, lined}
 use Rattle.text.specs.Text.{codes}
 use Rattle.text.proofs.LineLaws.{onto}
 use Rattle.text.proofs.PieceLaws.{closed}
-use Rattle.row.specs.Line.{byteText}
+use Rattle.front.specs.Line.{byteText}
 use Rattle.finding.specs.Line.{lineOf, spaced}
 use Rattle.finding.proofs.RoomLaws.{encoded-within}
 use Rattle.finding.proofs.line.line.Statement.{statement}

@@ -9,7 +9,7 @@ use Rattle.digits.specs.Digit.{pairOf}
 use Rattle.text.specs.Lines.{appended}
 use Rattle.text.specs.Text.{codes}
 use Rattle.text.proofs.LineLaws.{onto}
-use Rattle.row.specs.Line.{then}
+use Rattle.front.specs.Line.{then}
 use Rattle.finding.specs.Line.{spaced}
 use Rattle.finding.proofs.SpacedLaws.{spaced-next}
 use Rattle.finding.proofs.line.then_bytes.Statement.{statement}

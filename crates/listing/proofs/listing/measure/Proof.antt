@@ -5,8 +5,8 @@ use native.Mathlib.Omega.{arith}
 use denote.Ref.{now}
 use borrow.Author.Needs.{needs}
 use lib.ListN.{length, length-append}
+use Rattle.front.specs.Listed.{listed}
 use Rattle.row.proofs.RoomLaws.{line-whole}
-use Rattle.listing.specs.Listing.{listed}
 use Rattle.listing.proofs.WalkLaws.{rest, rest-all, rest-none, rest-turn}
 use Rattle.listing.proofs.listing.measure.Statement.{statement}
 use Rattle.listing.proofs.listing.measure.Tie as tie

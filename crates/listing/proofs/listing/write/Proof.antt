@@ -9,10 +9,9 @@ use lib.ListN.{length, drop}
 use lib.Seq.{length-take-le}
 use Rattle.fields.specs.Lay.{laid}
 use Rattle.text.proofs.LineLaws.{Holds}
-use Rattle.row.specs.Front.{frontOf}
-use Rattle.row.specs.Line.{lineAt}
+use Rattle.front.specs.Line.{lineAt}
+use Rattle.front.specs.Listed.{listed}
 use Rattle.row.proofs.RoomLaws.{line-whole}
-use Rattle.listing.specs.Listing.{listed}
 use Rattle.fields.proofs.LaidLaws.{laid-next, laid-whole}
 use Rattle.listing.proofs.WalkLaws.{rest, rest-all, rest-none, rest-turn}
 use Rattle.listing.proofs.listing.write.Statement.{statement}
@@ -42,7 +41,7 @@ module _ (c : tie.After-of Inv-loop μ-loop) where
   at = c .before .before .loop .at
 
   holds : Holds (lineAt (start + at) (drop at program)) (c .of .result .line)
-  holds = line-whole (start + at) (frontOf (drop at program)) (c .of .ensures .0)
+  holds = line-whole (start + at) (drop at program) (c .of .ensures .0)
 
   turn : rest program start at ≡ lineAt (start + at) (drop at program) ++ rest program start (c .of .result .next)
   turn = rest-turn program start at (c .before .loop-test .taken) (c .of .ensures .1 .0)

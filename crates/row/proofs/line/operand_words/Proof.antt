@@ -5,7 +5,7 @@ use Rattle.instruction.specs.declared.operands.Operands.{Operands}
 use Rattle.text.specs.declared.line.Line.{Line}
 use Rattle.text.specs.Lines.{appended}
 use Rattle.text.proofs.LineLaws.{onto}
-use Rattle.row.specs.Line.{byteText, operandsText, registerText, then}
+use Rattle.front.specs.Line.{byteText, operandsText, registerText, then}
 use Rattle.row.proofs.line.operand_words.Statement.{statement}
 use Rattle.row.proofs.line.operand_words.Tie as tie
 

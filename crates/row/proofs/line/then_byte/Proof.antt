@@ -3,7 +3,7 @@ use mathlib.Core.Path.{_∙_}
 use borrow.Author.Needs.{needs}
 use Rattle.text.specs.Text.{codes}
 use Rattle.text.proofs.LineLaws.{onto}
-use Rattle.row.specs.Line.{byteText}
+use Rattle.front.specs.Line.{byteText}
 use Rattle.row.proofs.line.then_byte.Statement.{statement}
 use Rattle.row.proofs.line.then_byte.Tie as tie
 

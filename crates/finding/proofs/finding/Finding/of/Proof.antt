@@ -14,10 +14,10 @@ use Rattle.instruction.specs.declared.operands.Operands.{Operands}
 use Rattle.instruction.specs.Encode.{encodedOf}
 use Rattle.text.specs.declared.line.Line.{Line}
 use Rattle.text.specs.Lines.{appended, lined}
-use Rattle.row.specs.declared.front.Front.{Front}
-use Rattle.row.specs.declared.front.Front.the-variants.{Whole}
-use Rattle.row.specs.Front.{frontOf, sizeOf}
-use Rattle.row.proofs.FrontLaws.{goes-on}
+use Rattle.front.specs.declared.front.Front.{Front}
+use Rattle.front.specs.declared.front.Front.the-variants.{Whole}
+use Rattle.front.specs.Front.{frontOf, sizeOf}
+use Rattle.front.proofs.FrontLaws.{goes-on}
 use Rattle.finding.specs.Found.{foundBy, plainIn}
 use Rattle.finding.specs.Line.{lineOf, linesOf}
 use Rattle.finding.proofs.finding.Finding.of.Statement.{statement}

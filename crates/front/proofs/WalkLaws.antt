@@ -5,9 +5,9 @@ use Prim.Native.Nat.{ℕ, zero, suc, _+_, _-_, _≤_, _<_}
 use native.Mathlib.Omega.{arith}
 use lib.ListN.{length, drop, drop-of-length-le}
 use lib.Seq.{drop-drop}
-use Rattle.row.specs.Front.{frontOf, sizeOf}
-use Rattle.row.specs.Walk.{walked}
-use Rattle.row.proofs.FrontLaws.{size-within, some-left}
+use Rattle.front.specs.Front.{frontOf, sizeOf}
+use Rattle.front.specs.Walk.{walked}
+use Rattle.front.proofs.FrontLaws.{size-within, some-left}
 
 module _ {A : Type 0} (say : ℕ → List ℕ → List A) where
   -- bytes that belong to a place where it was already are passed over
@@ -20,13 +20,14 @@ module _ {A : Type 0} (say : ℕ → List ℕ → List A) where
       let next : address + 1 + k ≡ address + suc k = omega arith in
       skipped k (address + 1) bs ∙ ap (λ a. walked say 0 a (drop k bs)) next
 
-  first :
+  -- what is said first, and behind it what is said from the next place on
+  pub walk-first :
       (address : ℕ) (bytes : List ℕ) → 0 < length bytes →
       let size = sizeOf (frontOf bytes) in
       walked say 0 address bytes ≡ say address bytes ++ walked say 0 (address + size) (drop size bytes)
   unfolding walked
-  first address [] some = absurd (omega arith)
-  first address (b ∷ bs) some =
+  walk-first address [] some = absurd (omega arith)
+  walk-first address (b ∷ bs) some =
       ap (λ rest. say address (b ∷ bs) ++ rest) (behind (sizeOf (frontOf (b ∷ bs))) (size-within (b ∷ bs) some .0))
     where
       behind : (size : ℕ) → 1 ≤ size → walked say (size - 1) (address + 1) bs ≡ walked say 0 (address + size) (drop size (b ∷ bs))
@@ -41,12 +42,12 @@ module _ {A : Type 0} (say : ℕ → List ℕ → List A) where
   unfolding walked
   walk-none program address at h = rw (drop-of-length-le program h)
 
-  -- what is said at a place, and behind it what is said from the next one on
+  -- the same at a place of a program
   pub walk-turn :
       (program : List ℕ) (address at : ℕ) → at < length program →
       let size = sizeOf (frontOf (drop at program)) in
       walked say 0 address (drop at program)
       ≡ say address (drop at program) ++ walked say 0 (address + size) (drop (at + size) program)
   walk-turn program address at h =
-      first address (drop at program) (some-left program at h)
+      walk-first address (drop at program) (some-left program at h)
       ∙ rw (drop-drop (sizeOf (frontOf (drop at program))) at program)

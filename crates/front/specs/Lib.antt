@@ -1,3 +1,5 @@
 pub mod Front
 pub mod Line
 pub mod Walk
+pub mod Listed
+pub mod Tells

@@ -14,11 +14,11 @@ use Rattle.instruction.specs.declared.decode.Decoded.the-variants.{Instruction}
 use Rattle.instruction.specs.declared.operands.Operands.{Operands}
 use Rattle.instruction.specs.Numbers.{decoding, spelling}
 use Rattle.instruction.specs.Plain.{isPlain}
-use Rattle.row.specs.declared.front.Front.the-variants.{Whole}
-use Rattle.row.specs.Front.{frontBy, frontOf}
-use Rattle.row.proofs.FrontLaws.{front-read, spelling-read}
-use Rattle.row.proofs.front.Front.of.Statement.{statement}
-use Rattle.row.proofs.front.Front.of.Tie as tie
+use Rattle.front.specs.declared.front.Front.the-variants.{Whole}
+use Rattle.front.specs.Front.{frontBy, frontOf}
+use Rattle.front.proofs.FrontLaws.{front-read, spelling-read}
+use Rattle.front.proofs.front.Front.of.Statement.{statement}
+use Rattle.front.proofs.front.Front.of.Tie as tie
 
 module _ (c : tie.After-decode) where
   abbrev bytes : List ℕ

@@ -1,9 +1,9 @@
 -- The enum's case picks the definition's.
 use mathlib.Core.Path.{sym, _∙_, ap}
 use borrow.Author.Needs.{needs}
-use Rattle.row.specs.Front.{sizeOf}
-use Rattle.row.proofs.front.Front.size.Statement.{statement}
-use Rattle.row.proofs.front.Front.size.Tie as tie
+use Rattle.front.specs.Front.{sizeOf}
+use Rattle.front.proofs.front.Front.size.Statement.{statement}
+use Rattle.front.proofs.front.Front.size.Tie as tie
 
 pub size-spec : {M : Type 1} → statement M
 size-spec =

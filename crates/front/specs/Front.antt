@@ -7,8 +7,8 @@ use lib.ListN.{length, getD}
 use Rattle.op.specs.Operations.{formOf, lengthOf}
 use Rattle.instruction.specs.Decode.{Decoding, instruction, refused, decodedOf}
 use Rattle.instruction.specs.Plain.{isPlain}
-use Rattle.row.specs.declared.front.Front.{Front}
-use Rattle.row.specs.declared.front.Front.the-variants.{Whole, Alone}
+use Rattle.front.specs.declared.front.Front.{Front}
+use Rattle.front.specs.declared.front.Front.the-variants.{Whole, Alone}
 
 -- from the instruction that stands first in the bytes; with a whole one goes whether it is in plain spelling
 abbrev pub frontBy : Decoding → List ℕ → Front

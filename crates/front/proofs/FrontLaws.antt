@@ -15,8 +15,8 @@ use Rattle.instruction.specs.declared.operands.Operands.{Operands}
 use Rattle.instruction.specs.Decode.{Decoding, instruction, refused, decodedOf}
 use Rattle.instruction.specs.Plain.{isPlain, spelled, spellingBy, spellingOf}
 use Rattle.instruction.proofs.PlainLaws.{plain-first}
-use Rattle.row.specs.declared.front.Front.the-variants.{Whole, Alone}
-use Rattle.row.specs.Front.{frontBy, frontOf, sizeOf}
+use Rattle.front.specs.declared.front.Front.the-variants.{Whole, Alone}
+use Rattle.front.specs.Front.{frontBy, frontOf, sizeOf}
 
 -- one byte at least, and no more than there are
 abbrev pub Within : ℕ → ℕ → Type 0

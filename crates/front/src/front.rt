@@ -1,6 +1,6 @@
 // What the bytes of a program begin with. A line of the listing stands for it.
 ghost use mathlib.Core.Path.{_≡_};
-ghost use Rattle.row.specs.Front.{frontOf, sizeOf};
+ghost use Rattle.front.specs.Front.{frontOf, sizeOf};
 use fields::read::byte_at;
 use instruction::decode::Decoded;
 use instruction::decode::decode;

@@ -1,0 +1,5 @@
+pub mod FrontLaws
+pub mod WalkLaws
+mod SpokenLaws
+pub mod LineTells
+pub mod TextTells
