@@ -39,7 +39,7 @@ abbrev pub bytesText : List ℕ → List ℕ
 bytesText [] = []
 bytesText (b ∷ bs) = then (byteText b) ++ bytesText bs
 
--- name and operands; or `.DB` and all bytes of the instruction that the bytes begin with; or `.DB` and the byte that stands alone
+-- of an instruction its name and operands where the spelling is plain, else `.DB` and all its bytes; or `.DB` and the byte that stands alone
 abbrev pub wordsOf : Front → List ℕ → List ℕ
 wordsOf (Whole o a true) bytes = then (nameOf o) ++ operandsText a
 wordsOf (Whole o a false) bytes = then (codes ".DB") ++ bytesText (take (lengthOf (formOf o)) bytes)
