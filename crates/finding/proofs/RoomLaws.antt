@@ -5,6 +5,7 @@ use mathlib.Core.List.{List, [], _∷_, append-nil}
 use Prim.Native.Nat.{ℕ, _≤_}
 use native.Mathlib.Omega.{arith}
 use lib.ListN.{length, length-append, length-take, take}
+use Rattle.digits.specs.Digit.{pairOf}
 use Rattle.op.specs.declared.operation.Op.{Op}
 use Rattle.op.specs.Operations.{formOf, lengthOf}
 use Rattle.op.proofs.Laws.{length-within}
@@ -16,9 +17,9 @@ use Rattle.text.proofs.LineLaws.{Holds, line-holds}
 use Rattle.front.specs.declared.front.Front.{Front}
 use Rattle.front.specs.declared.front.Front.the-variants.{Whole, Alone}
 use Rattle.front.specs.Front.{frontOf}
+use Rattle.front.proofs.SpacedLaws.{spaced-length}
 use Rattle.finding.specs.Found.{foundAt, foundBy}
 use Rattle.finding.specs.Line.{lineOf, linesOf}
-use Rattle.finding.proofs.SpacedLaws.{spaced-length}
 
 -- there are three bytes, and no more of them are the instruction
 abbrev Few : Encoding → Type 0
@@ -42,7 +43,7 @@ encoded-within o a e = let few = encoded-few o a in rw e (omega arith)
 line-length :
     (address : ℕ) (bytes plainly : List ℕ) → length bytes ≤ 3 → length plainly ≤ 3 → length (lineOf address bytes plainly) ≤ 29
 unfolding lineOf
-line-length address bytes plainly few plain = simp (length-append, spaced-length) (omega arith)
+line-length address bytes plainly few plain = simp (length-append, spaced-length pairOf 2 (λ b. refl)) (omega arith)
 
 -- what is said of what the bytes begin with: one line of an instruction that has at most three bytes, or nothing
 by-short : (front : Front) (address : ℕ) (bytes : List ℕ) → length (linesOf (foundBy front address bytes)) ≤ 29

@@ -4,16 +4,12 @@ use mathlib.Core.Bool.{cond}
 use mathlib.Core.List.{List, [], _∷_, _++_}
 use Rattle.digits.specs.Digit.{pairOf}
 use Rattle.text.specs.Text.{codes, lineEnd}
-use Rattle.front.specs.Line.{byteText, then}
+use Rattle.front.specs.Line.{byteText, spaced}
 use Rattle.finding.specs.Found.{Found}
 
--- each byte behind a space, as two upper-case digits
-abbrev pub spaced : List ℕ → List ℕ
-spaced [] = []
-spaced (b ∷ bs) = then (pairOf b) ++ spaced bs
-
+-- the bytes as two upper-case digits each
 unfoldable pub lineOf : ℕ → List ℕ → List ℕ → List ℕ
-lineOf address bytes plainly = byteText address ++ spaced bytes ++ codes " plain" ++ spaced plainly ++ lineEnd
+lineOf address bytes plainly = byteText address ++ spaced pairOf bytes ++ codes " plain" ++ spaced pairOf plainly ++ lineEnd
 
 abbrev pub linesOf : List Found → List ℕ
 linesOf [] = []

@@ -3,7 +3,9 @@ ghost use mathlib.Core.Path.{_≡_};
 ghost use lib.ListN.{take};
 ghost use Rattle.instruction.specs.Encode.{encodedOf};
 ghost use Rattle.text.specs.Lines.{appended, lined};
-ghost use Rattle.finding.specs.Line.{lineOf, spaced};
+ghost use Rattle.digits.specs.Digit.{pairOf};
+ghost use Rattle.front.specs.Line.{spaced};
+ghost use Rattle.finding.specs.Line.{lineOf};
 use digits::digit::pair;
 use instruction::encode::encode;
 use instruction::operands::Operands;
@@ -29,7 +31,7 @@ pub fn line(address: u8, bytes: &[u8], op: Op, operands: Operands) -> Line
 
 // Each byte behind a space, as two digits, behind what the line has already.
 fn then_bytes(line: Line, bytes: &[u8]) -> Line
-    ensures { λ r. ⌜ r ≡ appended line (spaced (now (bytes .entry))) ⌝ }
+    ensures { λ r. ⌜ r ≡ appended line (spaced pairOf (now (bytes .entry))) ⌝ }
 {
     let mut said = line;
     let mut at: usize = 0;

@@ -25,7 +25,7 @@ use Rattle.instruction.specs.Plain.{isPlain}
 use Rattle.instruction.proofs.PlainLaws.{same-over}
 use Rattle.front.specs.declared.front.Front.the-variants.{Whole, Alone}
 use Rattle.front.specs.Front.{frontOf, sizeOf}
-use Rattle.front.specs.Line.{byteText, bytesText, lineAt, lineOf, operandsText, then, wordsOf}
+use Rattle.front.specs.Line.{byteText, lineAt, lineOf, operandsText, spaced, then, wordsOf}
 use Rattle.front.specs.Tells.{LineTellsBytes, standsFor}
 use Rattle.front.proofs.SpokenLaws.{
   Words,
@@ -49,7 +49,7 @@ operandsIn o bytes = operandsOf (formOf o) (getD bytes 1 0) (getD bytes 2 0)
 data Said (bytes : List ℕ) : Type 0 where
   by-name :
       (o : Op) → frontOf bytes ≡ Whole o (operandsIn o bytes) true → isPlain o (operandsIn o bytes) bytes ≡ true → Said bytes
-  as-data : wordsOf (frontOf bytes) bytes ≡ then (codes ".DB") ++ bytesText (standsFor bytes) → Said bytes
+  as-data : wordsOf (frontOf bytes) bytes ≡ then (codes ".DB") ++ spaced byteText (standsFor bytes) → Said bytes
 
 module _ (bytes : List ℕ) (some : 0 < length bytes) where
   whole-said :
@@ -61,7 +61,7 @@ module _ (bytes : List ℕ) (some : 0 < length bytes) where
   alone-said : frontOf bytes ≡ Alone (getD bytes 0 0) → Said bytes
   alone-said e = as-data (rw e (ap (λ text. then (codes ".DB") ++ text) (first bytes some)))
     where
-      first : (l : List ℕ) → 0 < length l → then (byteText (getD l 0 0)) ≡ bytesText (take 1 l)
+      first : (l : List ℕ) → 0 < length l → then (byteText (getD l 0 0)) ≡ spaced byteText (take 1 l)
       first [] some = absurd (omega arith)
       first (b ∷ l) some = refl
 
@@ -98,7 +98,7 @@ heard-spoken bytes (by-name o e plain) =
     ∙ ap (λ t. then (nameOf o) ++ t) (operands-spoken a)
 heard-spoken bytes (as-data e) =
     ap (λ t. t ++ lineEnd) e
-    ∙ append-assoc (then (codes ".DB")) (bytesText (standsFor bytes)) lineEnd
+    ∙ append-assoc (then (codes ".DB")) (spaced byteText (standsFor bytes)) lineEnd
     ∙ ap (λ t. then (codes ".DB") ++ t) (bytes-spoken (standsFor bytes))
 
 line-spoken : (a : ℕ) (bytes : List ℕ) (s : Said bytes) → lineAt a bytes ≡ byteText a ++ spoken (heard bytes s)

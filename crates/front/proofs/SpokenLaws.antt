@@ -18,7 +18,7 @@ use Rattle.names.specs.Names.{nameOf}
 use Rattle.instruction.specs.declared.operands.Operands.{Operands}
 use Rattle.instruction.specs.declared.operands.Operands.the-variants.{None, Reg, RegImm, RegReg, RegAddr, Addr}
 use Rattle.instruction.specs.Operands.{operandsOf}
-use Rattle.front.specs.Line.{byteText, bytesText, operandsText, registerText, then}
+use Rattle.front.specs.Line.{byteText, operandsText, registerText, spaced, then}
 
 -- words, each behind a space, and the line's end
 abbrev pub spoken : List (List ℕ) → List ℕ
@@ -81,10 +81,10 @@ operands-words (RegAddr r a) = (register-word r, (byte-word a, tt))
 operands-words (Addr a) = (byte-word a, tt)
 
 -- bytes as words
-pub bytes-spoken : (bytes : List ℕ) → bytesText bytes ++ lineEnd ≡ spoken (map byteText bytes)
+pub bytes-spoken : (bytes : List ℕ) → spaced byteText bytes ++ lineEnd ≡ spoken (map byteText bytes)
 bytes-spoken [] = refl
 bytes-spoken (b ∷ bs) =
-    append-assoc (then (byteText b)) (bytesText bs) lineEnd ∙ ap (λ t. then (byteText b) ++ t) (bytes-spoken bs)
+    append-assoc (then (byteText b)) (spaced byteText bs) lineEnd ∙ ap (λ t. then (byteText b) ++ t) (bytes-spoken bs)
 
 pub bytes-words : (bytes : List ℕ) → Words (map byteText bytes)
 bytes-words [] = tt

@@ -34,15 +34,15 @@ operandsText (RegReg d s) = then (registerText d) ++ then (registerText s)
 operandsText (RegAddr r a) = then (registerText r) ++ then (byteText a)
 operandsText (Addr a) = then (byteText a)
 
--- each byte behind a space
-abbrev pub bytesText : List ℕ → List ℕ
-bytesText [] = []
-bytesText (b ∷ bs) = then (byteText b) ++ bytesText bs
+-- bytes, each behind a space, in the text that a byte has
+abbrev pub spaced : (ℕ → List ℕ) → List ℕ → List ℕ
+spaced text [] = []
+spaced text (b ∷ bs) = then (text b) ++ spaced text bs
 
 -- of an instruction its name and operands where the spelling is plain, else `.DB` and all its bytes; or `.DB` and the byte that stands alone
 abbrev pub wordsOf : Front → List ℕ → List ℕ
 wordsOf (Whole o a true) bytes = then (nameOf o) ++ operandsText a
-wordsOf (Whole o a false) bytes = then (codes ".DB") ++ bytesText (take (lengthOf (formOf o)) bytes)
+wordsOf (Whole o a false) bytes = then (codes ".DB") ++ spaced byteText (take (lengthOf (formOf o)) bytes)
 wordsOf (Alone byte) bytes = then (codes ".DB") ++ then (byteText byte)
 
 unfoldable pub lineOf : ℕ → Front → List ℕ → List ℕ

@@ -1,4 +1,3 @@
 pub mod AnswerLaws
 pub mod RoomLaws
 mod WalkLaws
-pub mod Callers

@@ -1,2 +1,2 @@
-mod BytesTextLaws
+mod BytesLaws
 pub mod RoomLaws

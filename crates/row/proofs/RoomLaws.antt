@@ -1,5 +1,5 @@
 -- What has room: each line of a listing on a Line, whatever its operands and its bytes.
-use mathlib.Core.Path.{_≡_}
+use mathlib.Core.Path.{_≡_, refl}
 use mathlib.Core.Bool.{Bool, true, false, cond}
 use mathlib.Core.List.{List, [], _∷_, _++_}
 use Prim.Native.Nat.{ℕ, zero, suc, _/_, _≤_}
@@ -20,8 +20,8 @@ use Rattle.text.proofs.LineLaws.{Holds, line-holds}
 use Rattle.front.specs.declared.front.Front.{Front}
 use Rattle.front.specs.declared.front.Front.the-variants.{Whole, Alone}
 use Rattle.front.specs.Front.{frontOf}
-use Rattle.front.specs.Line.{byteText, bytesText, registerText, then, operandsText, wordsOf, lineOf, lineAt}
-use Rattle.row.proofs.BytesTextLaws.{bytes-length}
+use Rattle.front.specs.Line.{byteText, registerText, spaced, then, operandsText, wordsOf, lineOf, lineAt}
+use Rattle.front.proofs.SpacedLaws.{spaced-length}
 
 -- a digit more behind the others, or none
 one-more : (none : Bool) (digits : List ℕ) (d k : ℕ) → length digits ≤ k → length (cond none [] (digits ++ (d ∷ []))) ≤ suc k
@@ -56,8 +56,8 @@ words-few (Whole o a false) bytes =
     let said = take (lengthOf (formOf o)) bytes in
     omega (
       arith,
-      length-append (then (codes ".DB")) (bytesText said),
-      bytes-length said,
+      length-append (then (codes ".DB")) (spaced byteText said),
+      spaced-length byteText 4 (λ b. refl) said,
       length-take (lengthOf (formOf o)) bytes,
       length-within (formOf o) .1,
     )

@@ -3,7 +3,7 @@ ghost use mathlib.Core.Path.{_≡_};
 ghost use lib.ListN.{take};
 ghost use Rattle.names.specs.Names.{nameOf};
 ghost use Rattle.text.specs.Lines.{appended, lined};
-ghost use Rattle.front.specs.Line.{byteText, bytesText, lineOf, operandsText, registerText, then, wordsOf};
+ghost use Rattle.front.specs.Line.{byteText, lineOf, operandsText, registerText, spaced, then, wordsOf};
 use digits::digit::pair;
 use front::front::Front;
 use instruction::operands::Operands;
@@ -72,7 +72,7 @@ fn then_byte(line: Line, b: u8) -> Line
 
 // The first few bytes, or all where there are fewer.
 fn then_bytes(line: Line, bytes: &[u8], few: usize) -> Line
-    ensures { λ r. ⌜ r ≡ appended line (bytesText (take few (now (bytes .entry)))) ⌝ }
+    ensures { λ r. ⌜ r ≡ appended line (spaced byteText (take few (now (bytes .entry)))) ⌝ }
 {
     let mut said = line;
     let mut at: usize = 0;

@@ -9,8 +9,9 @@ use Rattle.text.specs.Lines.{appended, emptyLine, lined}
 use Rattle.text.specs.Text.{codes}
 use Rattle.text.proofs.LineLaws.{onto}
 use Rattle.text.proofs.PieceLaws.{closed}
-use Rattle.front.specs.Line.{byteText}
-use Rattle.finding.specs.Line.{lineOf, spaced}
+use Rattle.digits.specs.Digit.{pairOf}
+use Rattle.front.specs.Line.{byteText, spaced}
+use Rattle.finding.specs.Line.{lineOf}
 use Rattle.finding.proofs.RoomLaws.{encoded-within}
 use Rattle.finding.proofs.line.line.Statement.{statement}
 use Rattle.finding.proofs.line.line.Tie as tie
@@ -37,8 +38,8 @@ returns c =
     let address = byteText (args .address) in
     let bytes = now (args .bytes) in
     let first = byte .byte .ensures ∙ ap (λ l. appended l address) (byte .before .empty .ensures) in
-    closed (address ++ spaced bytes) (codes " plain") (spaced (take (encode .result .length) (encode .result .bytes)))
-    (begun .then-bytes .ensures ∙ onto emptyLine address (spaced bytes) first)
+    closed (address ++ spaced pairOf bytes) (codes " plain") (spaced pairOf (take (encode .result .length) (encode .result .bytes)))
+    (begun .then-bytes .ensures ∙ onto emptyLine address (spaced pairOf bytes) first)
     (plain .text .ensures)
     (plainly .then-bytes2 .ensures)
     (c .text2 .ensures)

@@ -9,15 +9,14 @@ use Rattle.digits.specs.Digit.{pairOf}
 use Rattle.text.specs.Lines.{appended}
 use Rattle.text.specs.Text.{codes}
 use Rattle.text.proofs.LineLaws.{onto}
-use Rattle.front.specs.Line.{then}
-use Rattle.finding.specs.Line.{spaced}
-use Rattle.finding.proofs.SpacedLaws.{spaced-next}
+use Rattle.front.specs.Line.{spaced, then}
+use Rattle.front.proofs.SpacedLaws.{spaced-next}
 use Rattle.finding.proofs.line.then_bytes.Statement.{statement}
 use Rattle.finding.proofs.line.then_bytes.Tie as tie
 
 abbrev Inv-loop : tie.InvT-loop
 Inv-loop bytes said₀ at₀ t6 said at =
-    (at ≤ length bytes) × (appended said (spaced (drop at bytes)) ≡ appended said₀ (spaced bytes))
+    (at ≤ length bytes) × (appended said (spaced pairOf (drop at bytes)) ≡ appended said₀ (spaced pairOf bytes))
 
 abbrev μ-loop : tie.MeasureT-loop
 μ-loop bytes said₀ at₀ t6 said at = length bytes - at
@@ -35,8 +34,8 @@ loop-again c =
     let space = first .text .ensures in
     let piece = c .text2 .ensures ∙ ap (appended (first .text .result)) (pair .ensures) ∙ onto (l .said) (codes " ") digits space in (
       omega arith,
-      onto (l .said) (then digits) (spaced (drop (l .at + 1) bytes)) piece
-          ∙ sym (ap (appended (l .said)) (spaced-next bytes (l .at) (omega arith)))
+      onto (l .said) (then digits) (spaced pairOf (drop (l .at + 1) bytes)) piece
+          ∙ sym (ap (appended (l .said)) (spaced-next pairOf bytes (l .at) (omega arith)))
           ∙ l .inv .1,
     )
 

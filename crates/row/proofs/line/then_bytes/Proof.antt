@@ -9,14 +9,14 @@ use borrow.Author.Tests.{ltb-false, ltb-true}
 use lib.ListN.{length, getD, take, drop}
 use Rattle.text.specs.Lines.{appended}
 use Rattle.text.proofs.LineLaws.{onto}
-use Rattle.front.specs.Line.{byteText, bytesText, then}
-use Rattle.row.proofs.BytesTextLaws.{bytes-next, bytes-none}
+use Rattle.front.specs.Line.{byteText, spaced, then}
+use Rattle.row.proofs.BytesLaws.{bytes-next, bytes-none}
 use Rattle.row.proofs.line.then_bytes.Statement.{statement}
 use Rattle.row.proofs.line.then_bytes.Tie as tie
 
 abbrev Inv-loop : tie.InvT-loop
 Inv-loop bytes few said₀ at₀ said at =
-    (at ≤ length bytes) × (appended said (bytesText (drop at (take few bytes))) ≡ appended said₀ (bytesText (take few bytes)))
+    (at ≤ length bytes) × (appended said (spaced byteText (drop at (take few bytes))) ≡ appended said₀ (spaced byteText (take few bytes)))
 
 abbrev μ-loop : tie.MeasureT-loop
 μ-loop bytes few said₀ at₀ said at = length bytes - at
@@ -36,7 +36,7 @@ loop-again c =
     let bytes = now (args .bytes) in
     let next = bytes-next bytes (args .few) (l .at) (omega arith) (more tested) in (
       omega (arith, more tested),
-      onto (l .said) (then (byteText (getD bytes (l .at) 0))) (bytesText (drop (l .at + 1) (take (args .few) bytes))) (search needs)
+      onto (l .said) (then (byteText (getD bytes (l .at) 0))) (spaced byteText (drop (l .at + 1) (take (args .few) bytes))) (search needs)
           ∙ sym (ap (appended (l .said)) next)
           ∙ l .inv .1,
     )
@@ -49,7 +49,7 @@ module _ (c : tie.At-loop Inv-loop μ-loop) where
   abbrev bytes : List ℕ
   bytes = now (c .before .before .args .bytes)
 
-  all-said : min few (length bytes) ≤ c .loop .at → c .loop .said ≡ appended (c .before .before .args .line) (bytesText (take few bytes))
+  all-said : min few (length bytes) ≤ c .loop .at → c .loop .said ≡ appended (c .before .before .args .line) (spaced byteText (take few bytes))
   unfolding appended
   all-said h = sym (ap (appended (c .loop .said)) (bytes-none bytes few (c .loop .at) h)) ∙ c .loop .inv .1
 

@@ -13,7 +13,7 @@ use Rattle.text.specs.Text.{codes}
 use Rattle.text.proofs.LineLaws.{onto}
 use Rattle.front.specs.declared.front.Front.{Front}
 use Rattle.front.specs.declared.front.Front.the-variants.{Whole}
-use Rattle.front.specs.Line.{byteText, bytesText, operandsText, then, wordsOf}
+use Rattle.front.specs.Line.{byteText, operandsText, spaced, then, wordsOf}
 use Rattle.row.proofs.line.words.Statement.{statement}
 use Rattle.row.proofs.line.words.Tie as tie
 
@@ -43,8 +43,8 @@ returns-2 c =
     let whole = front .1 ∙ ap (Whole o (front .0 .1 .0)) (text .before .before .if1 .left) in
     said (args .line) bytes whole
     (c .then-bytes .ensures
-    ∙ ap (λ n. appended (text .text .result) (bytesText (take n bytes))) (c .before .instruction-len .ensures)
-    ∙ onto (args .line) (codes " .DB") (bytesText (take (lengthOf (formOf o)) bytes)) (text .text .ensures))
+    ∙ ap (λ n. appended (text .text .result) (spaced byteText (take n bytes))) (c .before .instruction-len .ensures)
+    ∙ onto (args .line) (codes " .DB") (spaced byteText (take (lengthOf (formOf o)) bytes)) (text .text .ensures))
 
 returns-3 : tie.Need-returns-3
 returns-3 c =

@@ -10,10 +10,10 @@ use Rattle.fields.specs.Written.{told, written}
 use Rattle.fields.proofs.WrittenLaws.{text-first}
 use Rattle.front.specs.Listed.{listed}
 use Rattle.front.proofs.TextTells.{listing-tells-program}
 use Rattle.listing.specs.declared.listing.ListAnswer.the-variants.{Listed}
 use Rattle.listing.specs.Listing.{listingOf}
 use Rattle.listing.specs.Numbers.{listNumber}
-use Rattle.listing.specs.Tells.{CallsTellProgram}
+use Rattle.listlaws.specs.Tells.{CallsTellProgram}
 
 -- what an accepted call wrote is the program's text
 text-there :

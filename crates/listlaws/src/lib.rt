@@ -1,0 +1,1 @@
+// Laws of the listing's routine, called twice: nothing that runs.
