@@ -1,7 +1,8 @@
 -- What a step, a run or a load answers, as numbers and bytes that can be compared one by one.
 use Prim.Native.Nat.{ℕ, _%_}
 use mathlib.Core.List.{List, [], _∷_}
-use lib.ListN.{getD}
+use Rattle.answer_number.specs.declared.Numbered.{Numbered}
+use Rattle.answer_number.specs.Numbered.{numbered}
 use Rattle.byte.specs.Flags.{bit}
 use Rattle.nanocore.specs.declared.machine.Machine.{Machine}
 use Rattle.nanocore.specs.Load.{Loading, loadOf}
@@ -10,11 +11,6 @@ use Rattle.nanocore.specs.Step.{Answered, situated, stepOf}
 use Rattle.answers.specs.declared.answer.Answer.{Answer}
 use Rattle.answers.specs.declared.answer.Kind.{Kind}
 use Rattle.answers.specs.declared.answer.Kind.the-variants.{Step, Run, Load}
-use Rattle.answers.specs.declared.number.Numbered.{Numbered}
-
--- a number and its values, 0 for a value that there is not
-abbrev pub numbered : List ℕ → Numbered
-numbered l = record { number = getD l 0 0; first = getD l 1 0; second = getD l 2 0 }
 
 -- all that a caller has afterwards, but for the output
 abbrev pub answerBy : Numbered → Machine → ℕ → ℕ → Answer

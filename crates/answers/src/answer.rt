@@ -3,10 +3,10 @@
 ghost use Prim.Native.Nat.{_%_};
 ghost use mathlib.Core.Path.{_≡_};
 ghost use Rattle.answers.specs.Answer.{answered, answerBy, answerOf};
-use crate::number::Numbered;
 use crate::number::load_number;
 use crate::number::run_number;
 use crate::number::step_number;
+use answer_number::Numbered;
 use nanocore::machine::Machine;
 
 pub enum Kind {

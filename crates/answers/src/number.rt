@@ -1,19 +1,15 @@
 // The paper's number and values of each answer, 0 for a value that there is not.
 ghost use mathlib.Core.Path.{_≡_};
+ghost use Rattle.answer_number.specs.Numbered.{numbered};
 ghost use Rattle.effect.specs.Numbers.{faultNumber};
 ghost use Rattle.nanocore.specs.Numbers.{stepNumber, runNumber, loadNumber, transferNumber};
-ghost use Rattle.answers.specs.Answer.{numbered};
+use answer_number::Numbered;
+use answer_number::numbers;
 use effect::Fault;
 use nanocore::answer::LoadAnswer;
 use nanocore::answer::RunAnswer;
 use nanocore::answer::StepAnswer;
 use nanocore::answer::TransferAnswer;
-
-pub struct Numbered {
-    pub number: usize,
-    pub first: usize,
-    pub second: usize,
-}
 
 pub fn fault_number(fault: Fault) -> Numbered
     ensures { λ r. ⌜ r ≡ numbered (faultNumber fault) ⌝ }
@@ -65,15 +61,5 @@ pub fn transfer_number(answer: TransferAnswer) -> Numbered
     match answer {
         TransferAnswer::Transferred => numbers(0, 0, 0),
         TransferAnswer::NoImage => numbers(19, 0, 0),
-    }
-}
-
-fn numbers(number: usize, first: usize, second: usize) -> Numbered
-    ensures { λ r. ⌜ r ≡ record { number = number; first = first; second = second } ⌝ }
-{
-    Numbered {
-        number: number,
-        first: first,
-        second: second,
     }
 }

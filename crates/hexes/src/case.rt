@@ -1,6 +1,5 @@
 // One text, read onto an image and marks that hold something, so that what is kept shows.
 ghost use Prim.Native.Nat.{_+_, _≤_, _<_};
-use crate::say;
 use fields::apart::alike;
 use fields::overlay::overlay;
 use hex::marks::set_bytes;
@@ -9,13 +8,14 @@ use hexread::answer::ReadAnswer;
 use hexread::read::read;
 use hexwrite::write::WriteAnswer;
 use hexwrite::write::write;
+use program::print;
 
 // The verdict; then the records that the writer makes of what was read, and whether all else is as it was.
 pub fn run(text: &[u8]) {
     let mut image = image_before();
     let mut marks = marks_before();
     let answer = read(text, &mut image, &mut marks);
-    say::line(verdict(answer, set_bytes(&marks)));
+    print::line(verdict(answer, set_bytes(&marks)));
     match answer {
         ReadAnswer::Done => accepted(&image, &marks),
         ReadAnswer::Refused(refusal) => refused(&image, &marks),
@@ -25,14 +25,14 @@ pub fn run(text: &[u8]) {
 fn accepted(image: &[u8], marks: &[u8]) {
     let mut text = io::buffer();
     match write(image, marks, &mut text) {
-        WriteAnswer::Wrote(length) => say::first(&text, length),
-        WriteAnswer::NoRoom(needed) => say::text(b"no room\n"),
-        WriteAnswer::NoImage => say::text(b"no image\n"),
+        WriteAnswer::Wrote(length) => print::first(&text, length),
+        WriteAnswer::NoRoom(needed) => print::text(b"no room\n"),
+        WriteAnswer::NoImage => print::text(b"no image\n"),
     }
     if is_kept(image, marks) {
-        say::text(b"rest kept\n");
+        print::text(b"rest kept\n");
     } else {
-        say::text(b"rest changed\n");
+        print::text(b"rest changed\n");
     }
 }
 
@@ -46,9 +46,9 @@ fn is_kept(image: &[u8], marks: &[u8]) -> bool {
 
 fn refused(image: &[u8], marks: &[u8]) {
     if alike(&image_before(), image) == 256 && alike(&marks_before(), marks) == 256 {
-        say::text(b"as found\n");
+        print::text(b"as found\n");
     } else {
-        say::text(b"changed\n");
+        print::text(b"changed\n");
     }
 }
 

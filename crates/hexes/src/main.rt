@@ -8,6 +8,7 @@ mod escape;
 mod say;
 
 use escape::plain;
+use program::input::whole_argument;
 use scan::class::Class;
 use scan::scan::first;
 use scan::scan::line_end;
@@ -23,15 +24,10 @@ fn main() {
 
 // The file that the i-th argument names. One that does not fit is not answered at all, so that no text of it is taken for a shorter one.
 fn run_file(i: usize) {
-    let mut path = io::buffer();
-    let length = os::arg(i, &mut path);
-    let file = os::open_read(&path[..length]);
     let mut cases = io::large_buffer();
-    let got = files::read(file, &mut cases);
-    let rest = files::skip(file);
-    libc::close(file);
-    if got.failed || rest.count > 0 {
-        say::unread(&path[..length]);
+    let got = whole_argument(i, &mut cases);
+    if got.failed {
+        say::unread(i);
         return;
     }
     run_cases(&cases[..got.count]);

@@ -1,11 +1,9 @@
 // An image and its marks, which the host keeps, from Intel HEX and as Intel HEX.
 ghost use mathlib.Core.Path.{_≡_};
-ghost use Rattle.host.specs.Hex.{readFrom, taken, writeFrom};
-ghost use Rattle.host.specs.Text.{texted};
-use hexread::read::read;
-use hexwrite::write::write;
-use numbers::hex::read_number;
-use numbers::hex::write_number;
+ghost use Rattle.answer_number.specs.Texted.{texted};
+ghost use Rattle.host_hex.specs.Hex.{readFrom, taken, writeFrom};
+use host_hex::read::read;
+use host_hex::write::write;
 
 #[no_mangle]
 pub extern "C" fn nanocore_read_hex(
@@ -20,9 +18,7 @@ pub extern "C" fn nanocore_read_hex(
         ≡ readFrom (now (text .entry)) (now (image .entry)) (now (marks .entry))
         ⌝ }
 {
-    let number = read_number(read(text, image, marks));
-    *values = [number.first, number.second];
-    number.number
+    read(text, image, marks, values)
 }
 
 #[no_mangle]
@@ -38,7 +34,5 @@ pub extern "C" fn nanocore_write_hex(
         ≡ writeFrom (now (image .entry)) (now (marks .entry)) (now (text .entry))
         ⌝ }
 {
-    let wrote = write_number(write(image, marks, text));
-    *values = [wrote.first, wrote.second];
-    wrote.number
+    write(image, marks, text, values)
 }

@@ -1,10 +1,9 @@
 // A program in words, into a lent buffer, and the labels of a source.
 ghost use mathlib.Core.Path.{_≡_};
-ghost use Rattle.host.specs.Text.{listFrom, mapFrom, mapped, texted};
-use labels::pass::map_labels;
-use listing::listing::list;
-use numbers::number::list_number;
-use numbers::number::map_number;
+ghost use Rattle.answer_number.specs.Texted.{texted};
+ghost use Rattle.host_text.specs.Text.{listFrom, mapFrom, mapped};
+use host_text::list::list;
+use host_text::map::labels;
 
 #[no_mangle]
 pub extern "C" fn nanocore_list(
@@ -16,9 +15,7 @@ pub extern "C" fn nanocore_list(
     ensures { λ r.
         ⌜ texted r (now (values .exit)) (now (text .exit)) ≡ listFrom (now (program .entry)) start (now (text .entry)) ⌝ }
 {
-    let number = list_number(list(program, start, text));
-    *values = [number.first, number.second];
-    number.number
+    list(program, start, text, values)
 }
 
 // The labels in the order of their first appearance: of each the place and the length of its name in the source, and its address.
@@ -37,17 +34,5 @@ pub extern "C" fn nanocore_labels(
         ≡ mapFrom (now (source .entry))
         ⌝ }
 {
-    let found = map_labels(source);
-    let answer = found.answer;
-    let labels = found.labels;
-    let number = map_number(answer);
-    let at = labels.places;
-    let long = labels.lengths;
-    let to = labels.addresses;
-    *count = labels.count;
-    *places = at;
-    *lengths = long;
-    *addresses = to;
-    *values = [number.first, number.second];
-    number.number
+    labels(source, count, places, lengths, addresses, values)
 }

@@ -1,6 +1,7 @@
 // The two arguments; more are ignored.
 ghost use Rattle.io.specs.Counts.{Counts};
 use crate::say;
+use program::say::failed;
 use text::number::Numeral;
 use text::number::number;
 
@@ -14,7 +15,7 @@ pub fn rule(program: &[u8], path: &mut [u8]) -> usize
     let length = os::arg(1, path);
     if length == 0 {
         if os::errno() == libc::ENAMETOOLONG {
-            say::failed(program, b"RULE");
+            failed(program, b"RULE");
         } else {
             say::usage(program);
         }

@@ -6,4 +6,4 @@ mod arguments;
 // The rule from its file, the station's bytes from standard input.
 pub mod read;
 // Why there is no job.
-pub mod say;
+mod say;

@@ -4,9 +4,9 @@ ghost use lib.ListN.{drop};
 ghost use mathlib.Core.Path.{_≡_};
 ghost use Rattle.io.specs.Counts.{Counts};
 use crate::arguments;
-use crate::say;
 use files::Got;
 use libc::STDIN_FILENO;
+use program::say::failed;
 use std::num::wrapping_add_usize;
 use text::number::Numeral;
 
@@ -45,17 +45,17 @@ fn read_file(program: &[u8], path: &[u8], limit: u16, buffer: &mut [u8]) -> Job
 {
     let file = os::open_read(path);
     if file < 0 {
-        say::failed(program, path);
+        failed(program, path);
         return without(Found::Nothing);
     }
     let got = files::read(file, &mut *buffer);
     if got.failed {
-        say::failed(program, path);
+        failed(program, path);
         return without(Found::Nothing);
     }
     let rest = files::skip(file);
     if rest.failed {
-        say::failed(program, path);
+        failed(program, path);
         return without(Found::Nothing);
     }
     libc::close(file);
@@ -87,7 +87,7 @@ pub fn read_input(program: &[u8], buffer: &mut [u8], limit: u16) -> Got
 {
     let got = files::read_some(STDIN_FILENO, buffer, limit as usize);
     if got.failed {
-        say::failed(program, b"standard input");
+        failed(program, b"standard input");
     }
     got
 }

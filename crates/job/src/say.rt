@@ -1,13 +1,6 @@
 // What is said on standard error where there is no job.
 use libc::STDERR_FILENO;
 
-// Why a call failed, by errno, which a write that succeeds leaves as it is.
-pub fn failed(program: &[u8], what: &[u8]) {
-    io::write_all(STDERR_FILENO, program);
-    io::write_all(STDERR_FILENO, b": ");
-    os::fail(what);
-}
-
 pub fn usage(program: &[u8]) {
     io::write_all(STDERR_FILENO, b"usage: ");
     io::write_all(STDERR_FILENO, program);

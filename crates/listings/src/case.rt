@@ -1,23 +1,48 @@
 // One call of the listing, and what it gave.
+ghost use Prim.Native.Nat.{_<_};
 ghost use mathlib.Core.Path.{_≡_};
 ghost use lib.ListN.{length};
 use crate::say;
+use digits::unhex::Unhexed;
+use digits::unhex::unhex;
 use listing::listing::ListAnswer;
 use listing::listing::list;
-
-// More than the lines of any program here need.
-pub const ROOM: usize = 4096;
+use program::print;
 
 // What the buffer holds before: no byte of a text.
 pub const BEFORE: u8 = 0xA5;
 
-// The headline, the answer's number and values, the text, and whether the bytes behind it are as before.
-pub fn run(headline: &[u8], program: &[u8], start: u8, room: usize) {
-    say::line(headline);
+// A case as it is written.
+pub fn read(written: &[u8]) {
+    let mut bytes = io::buffer();
+    match unhex(written, &mut bytes) {
+        Unhexed::Bytes(count) => take(&bytes[..count]),
+        Unhexed::Stopped(at) => say::line(b"no bytes"),
+    }
+}
+
+// The start, the room in two bytes, the higher first, and the program.
+fn take(case: &[u8]) {
+    if case.len() < 3 {
+        say::line(b"no case");
+        return;
+    }
+    let room = wide(case[1]) * 256 + wide(case[2]);
+    run(&case[3..], case[0], room);
+}
+
+pub fn wide(byte: u8) -> usize
+    ensures { λ r. ⌜ r < 256 ⌝ }
+{
+    byte as usize
+}
+
+// The answer's number and values, the text, and whether the bytes behind it are as before.
+fn run(program: &[u8], start: u8, room: usize) {
     let mut space = filled();
     let answer = list_into(program, start, &mut space, room);
     let length = tell(answer);
-    say::first(&space, length);
+    print::first(&space, length);
     if untouched(&space, length) {
         say::line(b"rest untouched");
     } else {
@@ -41,7 +66,7 @@ fn list_into(program: &[u8], start: u8, space: &mut [u8], room: usize) -> ListAn
 
 // Prints the answer and gives how long its text is.
 fn tell(answer: ListAnswer) -> usize {
-    say::text(b"answer");
+    print::text(b"answer");
     let mut written: usize = 0;
     match answer {
         ListAnswer::Listed(length) => {

@@ -1,10 +1,11 @@
 // Every first byte before every second one: 65,536 programs of two bytes, and as many of three. So many texts could not be read one by one: a line
 // for each first byte says what its 512 come to.
-ghost use Prim.Native.Nat.{_<_};
 use crate::case::BEFORE;
+use crate::case::wide;
 use crate::say;
 use listing::listing::ListAnswer;
 use listing::listing::list;
+use program::print;
 use std::num::wrapping_add_usize;
 
 // What stands third: a value or an address, a byte that begins nothing, or, where the first byte stands alone, the second's register, not plain.
@@ -43,7 +44,7 @@ pub fn all() {
 // The byte, then the length and the check of its texts.
 fn tell(first: u8) {
     let sum = before_every(first);
-    say::decimal(first as usize);
+    print::number(first as usize);
     say::number(sum.length);
     say::number(sum.check);
     say::line(b"");
@@ -80,10 +81,4 @@ fn checked(before: usize, bytes: &[u8; 64]) -> usize {
         i += 1;
     }
     check
-}
-
-fn wide(byte: u8) -> usize
-    ensures { λ r. ⌜ r < 256 ⌝ }
-{
-    byte as usize
 }

@@ -6,6 +6,7 @@ ghost use lib.ListN.{length};
 mod say;
 
 use labels::pass::map_labels;
+use program::input::whole_argument;
 use scan::class::Class;
 use scan::scan::first;
 
@@ -20,14 +21,9 @@ fn main() {
 
 // The file that the i-th argument names. One that does not fit is not answered at all, so that no source of it is taken for a shorter one.
 fn map_file(i: usize) {
-    let mut path = io::buffer();
-    let length = os::arg(i, &mut path);
-    let file = os::open_read(&path[..length]);
     let mut sources = io::large_buffer();
-    let got = files::read(file, &mut sources);
-    let rest = files::skip(file);
-    libc::close(file);
-    if got.failed || rest.count > 0 {
+    let got = whole_argument(i, &mut sources);
+    if got.failed {
         say::unread(i);
         return;
     }

@@ -3,7 +3,8 @@ ghost use Prim.Native.Nat.{_≤_};
 use labels::pass::MapAnswer;
 use labels::pass::Mapped;
 use labels::verdict::verdict;
-use libc::STDOUT_FILENO;
+use program::print::line;
+use program::print::text;
 use table::labels::Labels;
 use text::line::Line;
 
@@ -32,22 +33,17 @@ fn labels(labels: Labels)
     let places = labels.places;
     let lengths = labels.lengths;
     let addresses = labels.addresses;
-    io::write_all(STDOUT_FILENO, b"mapped");
+    text(b"mapped");
     let mut i: usize = 0;
     while i < count {
         label(places[i], lengths[i], addresses[i]);
         i += 1;
     }
-    io::write_all(STDOUT_FILENO, b"\n");
+    text(b"\n");
 }
 
 fn label(place: u16, length: u16, address: u8) {
     let begun = Line::empty().text(b" ").decimal(place as usize);
     let longer = begun.text(b" ").decimal(length as usize);
     line(longer.text(b" ").decimal(address as usize));
-}
-
-fn line(line: Line) {
-    let bytes = line.bytes;
-    files::write(STDOUT_FILENO, &bytes, line.length);
 }

@@ -1,27 +1,24 @@
 // nanohex: writes the rule that standard input holds as Intel HEX, its bytes from address 0 on. Standard output gets its records, or one line with the
 // refusal's number, and then standard error says why.
-mod say;
-
 use fields::lay::lay;
 use hexwrite::write::WriteAnswer;
 use hexwrite::write::write;
-use libc::STDIN_FILENO;
+use program::input::standard_input;
+use program::say;
 
 // The buffer holds far more than a rule may have, so what does not fit is too long, whatever follows.
 fn main() {
     let mut rule = io::large_buffer();
-    let got = files::read(STDIN_FILENO, &mut rule);
-    if got.failed {
-        say::failed(b"standard input");
-        return;
+    let got = standard_input(b"nanohex", &mut rule);
+    if !got.failed {
+        print(&rule[..got.count]);
     }
-    print(&rule[..got.count]);
 }
 
 // The rule's bytes are set, and no others.
 fn print(rule: &[u8]) {
     if rule.len() > 256 {
-        say::refused(11, b"a rule has at most 256 bytes");
+        say::refused(b"nanohex", 11, b"a rule has at most 256 bytes");
         return;
     }
     let mut image = [0u8; 256];
@@ -36,8 +33,12 @@ fn print(rule: &[u8]) {
 fn print_records(image: &[u8], marks: &[u8]) {
     let mut text = io::buffer();
     match write(image, marks, &mut text) {
-        WriteAnswer::Wrote(length) => say::text(&text, length),
-        WriteAnswer::NoRoom(needed) => say::refused(14, b"no room for the records"),
-        WriteAnswer::NoImage => say::refused(19, b"an image has 256 bytes"),
+        WriteAnswer::Wrote(length) => {
+            say::print(b"nanohex", &text, length);
+        },
+        WriteAnswer::NoRoom(needed) => {
+            say::refused(b"nanohex", 14, b"no room for the records");
+        },
+        WriteAnswer::NoImage => say::refused(b"nanohex", 19, b"an image has 256 bytes"),
     }
 }

@@ -7,18 +7,16 @@ mod say;
 
 use labels::pass::MapAnswer;
 use labels::pass::map_labels;
-use libc::STDIN_FILENO;
+use program::input::standard_input;
 use table::labels::Labels;
 
 // The buffer holds far more than a source may have, so what does not fit is refused, whatever follows.
 fn main() {
     let mut source = io::large_buffer();
-    let got = files::read(STDIN_FILENO, &mut source);
-    if got.failed {
-        say::failed(b"standard input");
-        return;
+    let got = standard_input(b"nanolabels", &mut source);
+    if !got.failed {
+        map(&source[..got.count]);
     }
-    map(&source[..got.count]);
 }
 
 fn map(source: &[u8]) {

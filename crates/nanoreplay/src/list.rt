@@ -7,6 +7,7 @@ use lines::line::Line;
 use lines::line::first_word;
 use lines::line::replay_line;
 use lines::line::word_end;
+use scan::scan::line_end;
 use std::num::wrapping_add_u64;
 
 // So many differences are printed; all are counted.
@@ -109,22 +110,6 @@ fn replay_lines(text: &[u8], bytes: &mut [u8], tally: Tally) -> Lines
         tally: counted,
         used: at,
     }
-}
-
-// Where the next LF stands from a place on, or the end.
-fn line_end(text: &[u8], from: usize) -> usize
-    requires { ⌜ from ≤ length (now text) ⌝ }
-    ensures { λ r. ⌜ from ≤ r ⌝ }
-    ensures { λ r. ⌜ r ≤ length (now (text .entry)) ⌝ }
-{
-    let mut i = from;
-    while i < text.len() {
-        if text[i] == b'\n' {
-            break;
-        }
-        i += 1;
-    }
-    i
 }
 
 // Moves the bytes of a stretch to the start, and answers how many they are.

@@ -3,12 +3,10 @@
 use job::read::Found;
 use job::read::read_input;
 use job::read::read_rule;
-use job::say::failed;
-use libc::STDERR_FILENO;
-use libc::STDOUT_FILENO;
+use program::say::print;
+use program::say::told;
 use rule::rule::run_rule;
 use rule::verdict::too_long;
-use text::line::Line;
 
 fn main() {
     let mut rule = io::large_buffer();
@@ -16,7 +14,7 @@ fn main() {
     let found = job.found;
     match found {
         Found::Rule => run(&rule[..job.length], job.limit),
-        Found::TooLong(length) => say(too_long(length, 0)),
+        Found::TooLong(length) => told(too_long(length, 0)),
         Found::Nothing => {},
     }
 }
@@ -30,14 +28,7 @@ fn run(rule: &[u8], limit: u16) {
     }
     let mut output = io::large_buffer();
     let ending = run_rule(rule, limit, &input[..got.count], &mut output);
-    if files::write(STDOUT_FILENO, &output, ending.written) {
-        say(ending.verdict);
-    } else {
-        failed(b"nanorun", b"standard output");
+    if print(b"nanorun", &output, ending.written) {
+        told(ending.verdict);
     }
-}
-
-fn say(verdict: Line) {
-    let bytes = verdict.bytes;
-    files::write(STDERR_FILENO, &bytes, verdict.length);
 }

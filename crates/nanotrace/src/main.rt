@@ -1,7 +1,5 @@
 // nanotrace RULE [LIMIT]: takes the rule that the file RULE holds step by step, as the host's console does, with the station's bytes from standard input.
 // Standard output gets a line after each completed step, and then the verdict. What the rule prints is not shown.
-mod say;
-
 use job::read::Found;
 use job::read::read_input;
 use job::read::read_rule;
@@ -10,6 +8,7 @@ use nanocore::machine::Machine;
 use rule::rule::load_rule;
 use rule::verdict::too_long;
 use rule::verdict::verdict;
+use text::line::Line;
 use trace::answer::Look;
 use trace::line::line;
 use trace::look::look;
@@ -20,7 +19,9 @@ fn main() {
     let found = job.found;
     match found {
         Found::Rule => trace(&rule[..job.length], job.limit),
-        Found::TooLong(length) => say::last(too_long(length, 0)),
+        Found::TooLong(length) => {
+            say(too_long(length, 0));
+        },
         Found::Nothing => {},
     }
 }
@@ -34,7 +35,9 @@ fn trace(rule: &[u8], limit: u16) {
     let loaded = load_rule(rule, limit);
     let answer = loaded.answer;
     match answer {
-        LoadAnswer::TooLong { length, start } => say::last(too_long(length, start)),
+        LoadAnswer::TooLong { length, start } => {
+            say(too_long(length, start));
+        },
         LoadAnswer::Loaded => follow(loaded.machine, &input[..got.count]),
     }
 }
@@ -51,11 +54,11 @@ fn follow(machine: Machine, input: &[u8]) {
         let seen = looked.look;
         match seen {
             Look::Ended(answer) => {
-                say::last(verdict(answer, after.count, after.pc));
+                say(verdict(answer, after.count, after.pc));
                 return;
             }
             Look::Completed => {
-                if !say::line(line(after)) {
+                if !say(line(after)) {
                     return;
                 }
                 at = after;
@@ -64,4 +67,9 @@ fn follow(machine: Machine, input: &[u8]) {
             }
         }
     }
+}
+
+// Whether the line was written; where it was not, it was said why.
+fn say(line: Line) -> bool {
+    program::say::line(b"nanotrace", line)
 }

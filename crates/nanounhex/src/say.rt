@@ -2,11 +2,11 @@
 use hexread::answer::ReadAnswer;
 use hexread::answer::Refusal;
 use libc::STDERR_FILENO;
-use text::line::Line;
+use program::say::told;
 
 // The verdict, and behind a refusal why, for whoever sent the rule.
 pub fn verdict(answer: ReadAnswer, count: usize) {
-    line(hex::verdict::verdict(answer, count));
+    told(hex::verdict::verdict(answer, count));
     match answer {
         ReadAnswer::Done => {},
         ReadAnswer::Refused(refusal) => refused(refusal),
@@ -48,19 +48,6 @@ pub fn too_long(length: usize) {
     io::write_all(STDERR_FILENO, b" bytes, which is more than a rule needs\n");
 }
 
-// Why a call failed, by errno, which a write that succeeds leaves as it is.
-pub fn failed(what: &[u8]) {
-    io::write_all(STDERR_FILENO, b"nanounhex: ");
-    os::fail(what);
-}
-
 fn why(words: &[u8]) {
-    io::write_all(STDERR_FILENO, b"nanounhex: ");
-    io::write_all(STDERR_FILENO, words);
-    io::write_all(STDERR_FILENO, b"\n");
-}
-
-fn line(line: Line) {
-    let bytes = line.bytes;
-    files::write(STDERR_FILENO, &bytes, line.length);
+    program::say::why(b"nanounhex", words);
 }

@@ -1,7 +1,7 @@
 // The verdicts of every way to end, with numbers of every length.
-use crate::say;
 use effect::Fault;
 use nanocore::answer::RunAnswer;
+use program::print;
 use rule::verdict::too_long;
 use rule::verdict::verdict;
 
@@ -13,9 +13,9 @@ pub fn print() {
 }
 
 fn halted() {
-    say::line(verdict(RunAnswer::Halted, 0, 0));
-    say::line(verdict(RunAnswer::Halted, 5, 6));
-    say::line(verdict(RunAnswer::Halted, 65535, 255));
+    print::line(verdict(RunAnswer::Halted, 0, 0));
+    print::line(verdict(RunAnswer::Halted, 5, 6));
+    print::line(verdict(RunAnswer::Halted, 65535, 255));
 }
 
 fn faults() {
@@ -37,18 +37,18 @@ fn faults() {
 }
 
 fn fault(fault: Fault, count: u16, pc: u8) {
-    say::line(verdict(RunAnswer::Refused(fault), count, pc));
+    print::line(verdict(RunAnswer::Refused(fault), count, pc));
 }
 
 fn limits() {
-    say::line(verdict(RunAnswer::LimitReached(0), 0, 0));
-    say::line(verdict(RunAnswer::LimitReached(1024), 1024, 0));
-    say::line(verdict(RunAnswer::LimitReached(65535), 65535, 199));
+    print::line(verdict(RunAnswer::LimitReached(0), 0, 0));
+    print::line(verdict(RunAnswer::LimitReached(1024), 1024, 0));
+    print::line(verdict(RunAnswer::LimitReached(65535), 65535, 199));
 }
 
 fn loads() {
-    say::line(too_long(2, 255));
-    say::line(too_long(257, 0));
-    say::line(too_long(300, 0));
-    say::line(too_long(18446744073709551615, 255));
+    print::line(too_long(2, 255));
+    print::line(too_long(257, 0));
+    print::line(too_long(300, 0));
+    print::line(too_long(18446744073709551615, 255));
 }

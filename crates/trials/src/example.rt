@@ -1,9 +1,10 @@
 // A rule that is run, what it was to print, and whether lent steps take it to the same end.
 ghost use Rattle.io.specs.Counts.{Counts};
 use crate::lent;
-use crate::say;
 use fields::apart::alike;
 use files::Got;
+use program::input::argument;
+use program::print;
 use rule::rule::run_rule;
 
 // The limit of a fresh machine.
@@ -37,46 +38,43 @@ fn tell(
 ) {
     let mut printed = io::large_buffer();
     let ending = run_rule(program, LIMIT, readings, &mut printed);
-    say::argument(rule);
-    say::text(b" printed ");
-    say::number(ending.written);
+    print::argument(rule);
+    print::text(b" printed ");
+    print::number(ending.written);
     if ending.written == count {
         compared(alike(&printed, expected), output);
     } else {
         differs(output);
     }
-    say::line(ending.verdict);
+    print::line(ending.verdict);
     lent::compare(program, LIMIT, readings);
 }
 
 // What was not printed is 0 in both, so bytes that are alike to the end of the larger buffers are the same.
 fn compared(same: usize, output: usize) {
     if same == 65536 {
-        say::text(b" as ");
-        say::argument(output);
-        say::text(b" has\n");
+        print::text(b" as ");
+        print::argument(output);
+        print::text(b" has\n");
     } else {
         differs(output);
     }
 }
 
 fn differs(output: usize) {
-    say::text(b", not as ");
-    say::argument(output);
-    say::text(b" has\n");
+    print::text(b", not as ");
+    print::argument(output);
+    print::text(b" has\n");
 }
 
+// Where it could not be read, it was said.
 fn read_argument(i: usize, buffer: &mut [u8]) -> Got
     ensures { λ r. ⌜ Counts (r .count) (now (buffer .exit)) ⌝ }
 {
-    let mut path = io::buffer();
-    let length = os::arg(i, &mut path);
-    let file = os::open_read(&path[..length]);
-    let got = files::read(file, buffer);
+    let got = argument(i, buffer);
     if got.failed {
-        say::argument(i);
-        say::text(b" could not be read\n");
+        print::argument(i);
+        print::text(b" could not be read\n");
     }
-    libc::close(file);
     got
 }

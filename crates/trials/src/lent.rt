@@ -1,5 +1,4 @@
 // A rule taken twice from where it was loaded: run by value, and one lent step after the other.
-use crate::say;
 use answers::answer::Answer;
 use answers::answer::of;
 use answers::number::run_number;
@@ -8,6 +7,7 @@ use fields::apart::numbers_alike;
 use nanocore::answer::LoadAnswer;
 use nanocore::answer::RunOutcome;
 use nanocore::machine::Machine;
+use program::print;
 use rule::rule::load_rule;
 use trace::run::run_by_looks;
 
@@ -17,7 +17,7 @@ pub fn compare(rule: &[u8], limit: u16, input: &[u8]) {
     let answer = loaded.answer;
     match answer {
         LoadAnswer::Loaded => take(loaded.machine, input),
-        LoadAnswer::TooLong { length, start } => say::text(b"no lent step\n"),
+        LoadAnswer::TooLong { length, start } => print::text(b"no lent step\n"),
     }
 }
 
@@ -27,9 +27,9 @@ fn take(machine: Machine, input: &[u8]) {
     let mut lent = io::large_buffer();
     let stepped = all(run_by_looks(machine, input, 0, &mut lent, 0));
     if same(ran, stepped) && alike(&printed, &lent) == 65536 {
-        say::text(b"lent steps as the run\n");
+        print::text(b"lent steps as the run\n");
     } else {
-        say::text(b"lent steps differ from the run\n");
+        print::text(b"lent steps differ from the run\n");
     }
 }
 

@@ -3,7 +3,6 @@
 mod endings;
 mod example;
 mod lent;
-mod say;
 
 fn main() {
     endings::print();

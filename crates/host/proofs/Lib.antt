@@ -1,2 +1,0 @@
-mod MachineLaws
-mod TextLaws

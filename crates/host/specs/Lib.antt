@@ -1,5 +1,0 @@
-pub mod About
-pub mod Machine
-pub mod Instruction
-pub mod Text
-pub mod Hex
