@@ -17,7 +17,7 @@ find_cc() {
 build_library() { # ROOT
     mkdir -p "$1/target"
     echo "proving and building the library; from nothing this takes some minutes" >&2
-    (cd "$1" && rt staticlib host) >"$1/target/host.log" 2>&1 || {
+    (cd "$1" && use_memory && rt staticlib host) >"$1/target/host.log" 2>&1 || {
         tail -n 5 "$1/target/host.log" >&2
         echo "the library was not proved; $1/target/host.log has everything that was said" >&2
         return 1
