@@ -1,4 +1,6 @@
 // An answer as three numbers: the paper's number and two values, 0 for a value that there is not.
+#![tactic(auto)]
+
 ghost use Rattle.std.specs.Prelude.{◌≡◌};
 
 #[derive(Drop)]

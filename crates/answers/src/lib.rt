@@ -1,4 +1,5 @@
 // What a step, a run, a load or a transfer answers, as numbers and bytes that can be compared one by one.
+#![tactic(auto)]
 
 // All of an answer.
 pub mod answer;

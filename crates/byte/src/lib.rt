@@ -1,4 +1,5 @@
 // Bytes as the processor computes with them: a result with the bit that leaves it, and the flags byte.
+#![tactic(auto)]
 
 // Sums, differences, products, quotients and remainders.
 pub mod arithmetic;

@@ -1,4 +1,5 @@
 // "The host's console keeps one machine record and lends it to be stepped in its own storage."
+#![tactic(auto)]
 
 // What the console is told: the answer, and the new place and number.
 pub mod report;

@@ -1,4 +1,5 @@
 // Bytes as text.
+#![tactic(auto)]
 
 // Hexadecimal digits.
 pub mod digit;

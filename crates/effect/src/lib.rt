@@ -1,5 +1,6 @@
 // What an instruction comes to, and the moves that the operations are made of. No instruction writes two places: each writes nothing, one
 // register, one memory byte or one output byte, and leaves pc, sp, flags and the input's place.
+#![tactic(auto)]
 
 // Where the machine stands, and the plain moves from there: on, by a load, by a jump.
 pub mod core;

@@ -1,4 +1,5 @@
 // What a case is made of: bytes and numbers at a place, bytes that change a memory or a buffer; and where two answers first part.
+#![tactic(auto)]
 
 // Where two lists of bytes, or of numbers, first differ.
 pub mod apart;

@@ -1,5 +1,7 @@
 // What the programs read and write, over the kit's io, os and libc. A read that fails is told apart from an end: a rule or a reading that could not be
 // read is never taken for an empty one.
+#![tactic(auto)]
+
 ghost use Rattle.std.specs.Prelude.{◌≡◌, ◌+◌, ◌≤◌, length, drop};
 ghost use Rattle.io.specs.Counts.{IsPrefixLen};
 

@@ -1,4 +1,5 @@
 // What is said of the spelling at one place of a rule.
+#![tactic(auto)]
 
 // The line of an instruction that is not in plain spelling.
 pub mod line;

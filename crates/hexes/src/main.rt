@@ -1,5 +1,7 @@
 // hexes FILE..: reads every text of Intel HEX in each FILE and prints what came of it. The gate runs it on many.
 // In a FILE a `#` and a headline begin a case, and its text stands below.
+#![tactic(auto)]
+
 ghost use Rattle.std.specs.Prelude.{◌≤◌, length};
 
 mod case;

@@ -1,1 +1,2 @@
 // Laws of Intel HEX, read and written: nothing that runs.
+#![tactic(auto)]

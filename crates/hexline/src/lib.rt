@@ -1,4 +1,5 @@
 // One line of Intel HEX: a record, read and written.
+#![tactic(auto)]
 
 // What a line is.
 pub mod record;

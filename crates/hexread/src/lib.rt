@@ -1,4 +1,5 @@
 // A rule from Intel HEX, onto a lent image and its marks.
+#![tactic(auto)]
 
 // What a reading answers.
 pub mod answer;

@@ -1,4 +1,5 @@
 // What reading a rule from Intel HEX came to, for whoever sent it.
+#![tactic(auto)]
 
 // How many bytes are set.
 pub mod marks;

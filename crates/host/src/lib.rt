@@ -1,5 +1,6 @@
 // NanoCore for programs in other languages: C functions over numbers and bytes. A machine crosses as a record of 296 bytes. Each function is one call of the
 // crate that has its body, its definition and its proof: a library's exported functions have to stand in one crate.
+#![tactic(auto)]
 
 // What this build is.
 pub mod about;

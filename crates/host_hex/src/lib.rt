@@ -1,4 +1,5 @@
 // Intel HEX as another language has it, with answers in numbers.
+#![tactic(auto)]
 
 // From a text onto an image and its marks.
 pub mod read;

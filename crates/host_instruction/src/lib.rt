@@ -1,4 +1,5 @@
 // An instruction as another language has it, in numbers.
+#![tactic(auto)]
 
 // Its bytes as numbers, and from numbers.
 pub mod decode;

@@ -1,4 +1,5 @@
 // A machine that a program in another language keeps as its record of 296 bytes, and what is done with it where it lies.
+#![tactic(auto)]
 
 // Fresh, loaded, stepped, run, and given an image's bytes.
 pub mod fresh;

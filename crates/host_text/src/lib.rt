@@ -1,4 +1,5 @@
 // Texts as another language has them, with answers in numbers.
+#![tactic(auto)]
 
 // A program in words.
 pub mod list;

@@ -1,4 +1,5 @@
 // An instruction: its operands, read and written as bytes.
+#![tactic(auto)]
 
 // What follows an operation.
 pub mod operands;

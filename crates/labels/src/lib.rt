@@ -1,4 +1,5 @@
 // The address pass: the labels of a source and their addresses.
+#![tactic(auto)]
 
 // One line of the source, and the pass over all.
 pub mod pass;

@@ -1,4 +1,5 @@
 // A list of cases, line by line, as oracle/FORMAT.md has them.
+#![tactic(auto)]
 
 // Lines of text to cases.
 pub mod line;

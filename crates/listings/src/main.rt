@@ -1,5 +1,7 @@
 // listings FILE: lists the program of each case in FILE and prints what it gave, and then what every first byte gives before every second. The gate runs it.
 // A line of FILE with a colon is a case, its headline before the colon. Other lines are remarks.
+#![tactic(auto)]
+
 mod case;
 mod say;
 mod tails;

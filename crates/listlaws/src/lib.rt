@@ -1,1 +1,2 @@
 // Laws of the listing's routine, called twice: nothing that runs.
+#![tactic(auto)]

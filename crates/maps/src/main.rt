@@ -1,5 +1,7 @@
 // maps FILE..: maps the labels of each source in each FILE and prints a line for it: `mapped` with place, length and address of every label, or the refusal.
 // The sources stand one after the other, each ended by the byte 0xFF, which no source has. The gate runs it on recorded ones.
+#![tactic(auto)]
+
 ghost use Rattle.std.specs.Prelude.{◌≤◌, length};
 
 mod say;

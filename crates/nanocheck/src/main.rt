@@ -1,5 +1,7 @@
 // nanocheck: says which instructions of the rule that standard input holds are not in plain spelling. Standard output gets a line for each of them, and then how
 // many are, or one line with the refusal's number, and then standard error says why.
+#![tactic(auto)]
+
 use program::input::standard_input;
 use program::say;
 use spelling::check::{CheckAnswer, check};

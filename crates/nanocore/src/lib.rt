@@ -1,4 +1,5 @@
 // The processor: the machine record, and the methods that take a machine and hand the next machine back.
+#![tactic(auto)]
 
 // The record, fresh, and its flags.
 pub mod machine;

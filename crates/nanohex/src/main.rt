@@ -1,5 +1,7 @@
 // nanohex: writes the rule that standard input holds as Intel HEX, its bytes from address 0 on. Standard output gets its records, or one line with the
 // refusal's number, and then standard error says why.
+#![tactic(auto)]
+
 use fields::lay::lay;
 use hexwrite::write::{WriteAnswer, write};
 use program::input::standard_input;

@@ -1,5 +1,7 @@
 // nanolabels: maps the labels of the source that standard input holds. Standard output gets a line for each, its name and its address, or one line with the
 // refusal, which standard error then has in words.
+#![tactic(auto)]
+
 ghost use Rattle.std.specs.Prelude.{◌≤◌};
 ghost use Rattle.labels.specs.Inside.{Inside};
 

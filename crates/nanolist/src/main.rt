@@ -1,5 +1,7 @@
 // nanolist: lists the program that standard input holds, from address 0 on. Standard output gets its lines, or one line with the refusal's number, and then
 // standard error says why.
+#![tactic(auto)]
+
 use listing::listing::{ListAnswer, list};
 use program::input::standard_input;
 use program::say;

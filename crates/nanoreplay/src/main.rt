@@ -1,6 +1,8 @@
 // nanoreplay [FILE..]: replays lists of cases (oracle/FORMAT.md) from the files, or from standard input where none is named. It prints a line for
 // each of the first differences, a line for each line that is no whole case, and at the end of each list `compared N differ M`. Before the lines of
 // a file it prints its name.
+#![tactic(auto)]
+
 mod list;
 mod say;
 

@@ -1,5 +1,7 @@
 // nanorun RULE [LIMIT]: runs the rule that the file RULE holds, with the station's bytes from standard input. Standard output gets exactly the bytes
 // that the rule printed, standard error one line: the verdict, or why there is none.
+#![tactic(auto)]
+
 use job::read::{Found, read_input, read_rule};
 use program::say::{print, told};
 use rule::rule::run_rule;

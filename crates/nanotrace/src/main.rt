@@ -1,5 +1,7 @@
 // nanotrace RULE [LIMIT]: takes the rule that the file RULE holds step by step, as the host's console does, with the station's bytes from standard input.
 // Standard output gets a line after each completed step, and then the verdict. What the rule prints is not shown.
+#![tactic(auto)]
+
 use job::read::{Found, read_input, read_rule};
 use nanocore::answer::LoadAnswer;
 use nanocore::machine::Machine;

@@ -1,5 +1,7 @@
 // nanounhex: reads the rule that standard input holds as Intel HEX. Standard output gets its bytes, from address 0 to the last one that is set, and
 // standard error the verdict, and behind a refusal why.
+#![tactic(auto)]
+
 mod say;
 
 use hexverdict::marks::set_bytes;

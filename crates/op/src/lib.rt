@@ -1,4 +1,5 @@
 // The forty operations: byte, form and length.
+#![tactic(auto)]
 
 // The operations, and their bytes.
 pub mod operation;

@@ -1,5 +1,6 @@
 // What the programs share: how they read what they are given, and how they say what came of it. What is wrong is said on standard error, behind the
 // program's name, which keeps what a file is called from being read as a verdict.
+#![tactic(auto)]
 
 // Standard input, and the files that arguments name.
 pub mod input;

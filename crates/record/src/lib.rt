@@ -1,4 +1,5 @@
 // A machine as bytes: the record by which it crosses to another language.
+#![tactic(auto)]
 
 // The record, read and written.
 pub mod record;

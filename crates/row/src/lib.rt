@@ -1,4 +1,5 @@
 // One line of a listing, written.
+#![tactic(auto)]
 
 // The line of what the bytes begin with.
 pub mod line;

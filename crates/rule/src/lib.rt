@@ -1,4 +1,5 @@
 // A rule, run from its bytes to its verdict.
+#![tactic(auto)]
 
 // The line that says how a rule ended.
 pub mod verdict;

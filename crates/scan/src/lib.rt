@@ -1,4 +1,5 @@
 // Scans of a text: where bytes of a class stand.
+#![tactic(auto)]
 
 // Classes of bytes.
 pub mod class;

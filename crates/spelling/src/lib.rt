@@ -1,4 +1,5 @@
 // Whether a rule's instructions are in plain spelling.
+#![tactic(auto)]
 
 // The check of a rule, into a lent buffer.
 pub mod check;

@@ -1,4 +1,5 @@
 // The table of labels that the address pass fills.
+#![tactic(auto)]
 
 // The table.
 pub mod labels;

@@ -1,4 +1,5 @@
 // Text: lines that are put together from words and numbers, and numbers read.
+#![tactic(auto)]
 
 // A line of words and numbers.
 pub mod line;

@@ -1,4 +1,5 @@
 // One turn of the machine: the instruction at pc is fetched, decoded and carried out, or refused.
+#![tactic(auto)]
 
 // The forty operations at work.
 pub mod execute;
