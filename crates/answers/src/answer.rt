@@ -7,7 +7,7 @@ use crate::number::{load_number, run_number, step_number};
 use answer_number::Numbered;
 use nanocore::machine::Machine;
 
-#[derive(Drop)]
+#[derive(Clone, Copy)]
 pub enum Kind {
     Step,
     Run,
@@ -15,7 +15,7 @@ pub enum Kind {
 }
 
 // The numbers: number, first value, second value, pc, sp, flags, halted (0 or 1), count, limit, place, written.
-#[derive(Drop)]
+#[derive(Clone, Copy)]
 pub struct Answer {
     pub numbers: [usize; 11],
     pub registers: [u8; 16],

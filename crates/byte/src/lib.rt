@@ -9,7 +9,7 @@ pub mod shift;
 pub mod flags;
 
 // A byte and the bit that left it: the `(u8, bool)` that Rust's `overflowing_*` give.
-#[derive(Drop)]
+#[derive(Clone, Copy)]
 pub struct Carried {
     pub value: u8,
     pub carry: bool,

@@ -6,7 +6,7 @@ use fields::apart::{alike, numbers_alike};
 use fields::read::{byte_at, number_at};
 
 // What a difference is in.
-#[derive(Drop)]
+#[derive(Clone, Copy)]
 pub enum Part {
     // one of the numbers of an answer
     Number,
@@ -16,7 +16,7 @@ pub enum Part {
 }
 
 // The first number, register or byte that differs: which, what we have there and what the case has.
-#[derive(Drop)]
+#[derive(Clone, Copy)]
 pub struct Difference {
     pub part: Part,
     pub index: usize,
@@ -24,7 +24,7 @@ pub struct Difference {
     pub theirs: usize,
 }
 
-#[derive(Drop)]
+#[derive(Clone, Copy)]
 pub enum Verdict {
     Same,
     Differs(Difference),

@@ -2,14 +2,14 @@
 // written.
 use nanocore::answer::{RunAnswer, StepAnswer};
 
-#[derive(Drop)]
+#[derive(Clone, Copy)]
 pub struct StepReport {
     pub answer: StepAnswer,
     pub place: usize,
     pub written: usize,
 }
 
-#[derive(Drop)]
+#[derive(Clone, Copy)]
 pub struct RunReport {
     pub answer: RunAnswer,
     pub place: usize,

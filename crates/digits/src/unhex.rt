@@ -4,7 +4,7 @@ ghost use Rattle.digits.specs.Unhex.{parts, unhexed, told};
 
 use crate::digit::{NONE, digit};
 
-#[derive(Drop)]
+#[derive(Clone, Copy)]
 pub enum Unhexed {
     // so many bytes, at the start of the buffer
     Bytes(usize),

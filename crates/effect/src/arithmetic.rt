@@ -25,7 +25,7 @@ impl Core {
     }
 
     // The register takes the result.
-    pub fn res(self, length: u8, register: u8, res: Carried) -> Turn
+    pub fn result(self, length: u8, register: u8, res: Carried) -> Turn
         ensures { fate result ≡ done (resulted self length register res) }
     {
         self.flagged(length, Write::Register(register, res.value), res)

@@ -8,7 +8,7 @@ use byte::flags::update_zn_flags;
 use std::num::wrapping_add_u8;
 
 // What an instruction may move beside what it writes.
-#[derive(Drop)]
+#[derive(Clone, Copy)]
 pub struct Core {
     pub pc: u8,
     pub sp: u8,

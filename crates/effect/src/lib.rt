@@ -11,7 +11,7 @@ pub mod stack;
 // What comes in and what is printed.
 pub mod port;
 
-#[derive(Drop)]
+#[derive(Clone, Copy)]
 pub enum Write {
     Nothing,
     // the register, and the byte that it takes
@@ -21,7 +21,7 @@ pub enum Write {
     Output(u8),
 }
 
-#[derive(Drop)]
+#[derive(Clone, Copy)]
 pub struct Effect {
     pub write: Write,
     pub pc: u8,
@@ -31,7 +31,7 @@ pub struct Effect {
 }
 
 // Why an instruction may not complete.
-#[derive(Drop)]
+#[derive(Clone, Copy)]
 pub enum Fault {
     InvalidOpcode { opcode: u8, pc: u8 },
     StackFull(u8),
@@ -41,7 +41,7 @@ pub enum Fault {
     NoRoom,
 }
 
-#[derive(Drop)]
+#[derive(Clone, Copy)]
 pub enum Turn {
     Done(Effect),
     Halt,

@@ -10,7 +10,7 @@ use front::front::Front;
 use text::line::Line;
 
 // The line that is said, empty where there is none to say; 1 for an instruction, and 1 for one in plain spelling; and the place of the next.
-#[derive(Drop)]
+#[derive(Clone, Copy)]
 pub struct Finding {
     pub line: Line,
     pub instructions: usize,

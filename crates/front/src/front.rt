@@ -8,7 +8,7 @@ use instruction::operands::Operands;
 use op::operation::Op;
 
 // An instruction that is there whole, with whether it is in plain spelling, or one byte alone.
-#[derive(Drop)]
+#[derive(Clone, Copy)]
 pub enum Front {
     Whole(Op, Operands, bool),
     Alone(u8),

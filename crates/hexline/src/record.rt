@@ -9,7 +9,7 @@ use crate::spell::spell;
 use crate::sum::sum;
 use fields::read::byte_at;
 
-#[derive(Drop)]
+#[derive(Clone, Copy)]
 pub enum Kind {
     Fills,
     Ends,
@@ -19,7 +19,7 @@ pub enum Kind {
 }
 
 // The bytes of the record stand at the start, so many. They count where it fills.
-#[derive(Drop)]
+#[derive(Clone, Copy)]
 pub struct Record {
     pub kind: Kind,
     pub bytes: [u8; 260],

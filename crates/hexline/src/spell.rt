@@ -6,7 +6,7 @@ ghost use Rattle.hexline.specs.Spelling.{nothing, spelled};
 use digits::digit::digit;
 
 // Where the text is spelled whole, so many bytes stand at the start: at most 260, for a record has 255 of data and five others.
-#[derive(Drop)]
+#[derive(Clone, Copy)]
 pub struct Spelled {
     pub whole: bool,
     pub bytes: [u8; 260],

@@ -1,13 +1,13 @@
 // What a reading answers.
 
-#[derive(Drop)]
+#[derive(Clone, Copy)]
 pub enum ReadAnswer {
     Done,
     Refused(Refusal),
 }
 
 // Why image and marks are as they were. Five come with the line.
-#[derive(Drop)]
+#[derive(Clone, Copy)]
 pub enum Refusal {
     NoImage,
     Shape(usize),

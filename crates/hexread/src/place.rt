@@ -11,7 +11,7 @@ use scan::class::Class;
 use scan::scan::some;
 
 // After a line: the next one, the end, or the refusal of the whole text.
-#[derive(Drop)]
+#[derive(Clone, Copy)]
 pub enum Turn {
     Goes,
     Ended,

@@ -11,7 +11,7 @@ use hexline::line::{data_line, end_line};
 use text::line::Line;
 
 // The length of the text, or why there is none: image or marks not 256 long, or the room that the text needs.
-#[derive(Drop)]
+#[derive(Clone, Copy)]
 pub enum WriteAnswer {
     Wrote(usize),
     NoImage,

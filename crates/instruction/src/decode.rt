@@ -9,7 +9,7 @@ use op::form::Form;
 use op::operation::{Lookup, Op};
 
 // An instruction comes with whether its bytes are the plain spelling, an invalid opcode as it was read.
-#[derive(Drop)]
+#[derive(Clone, Copy)]
 pub enum Decoded {
     Instruction(Op, Operands, bool),
     Invalid(u8),

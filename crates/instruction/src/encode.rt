@@ -8,7 +8,7 @@ use crate::operands::Operands;
 use op::form::Form;
 use op::operation::Op;
 
-#[derive(Drop)]
+#[derive(Clone, Copy)]
 pub enum EncodeAnswer {
     Done,
     OtherForm,
@@ -16,7 +16,7 @@ pub enum EncodeAnswer {
 }
 
 // The first `length` bytes are the instruction; the others are 0.
-#[derive(Drop)]
+#[derive(Clone, Copy)]
 pub struct Encoded {
     pub answer: EncodeAnswer,
     pub bytes: [u8; 3],

@@ -5,7 +5,7 @@ ghost use Rattle.instruction.specs.Encode.{shape_of, registers_exist, two_of, th
 
 use op::form::Form;
 
-#[derive(Drop)]
+#[derive(Clone, Copy)]
 pub enum Operands {
     None,
     Reg(u8),

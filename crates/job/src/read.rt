@@ -9,7 +9,7 @@ use program::say::failed;
 use std::num::wrapping_add_usize;
 use text::number::Numeral;
 
-#[derive(Drop)]
+#[derive(Clone, Copy)]
 pub enum Found {
     Rule,
     // So many bytes, more than the buffer has and so more than a machine.
@@ -19,7 +19,7 @@ pub enum Found {
 }
 
 // What was found; of a rule, how many bytes it has, at the buffer's start, and its limit.
-#[derive(Drop)]
+#[derive(Clone, Copy)]
 pub struct Job {
     pub found: Found,
     pub length: usize,

@@ -15,14 +15,14 @@ use table::labels::Labels;
 // A longer source is refused.
 const MOST: usize = 16384;
 
-#[derive(Drop)]
+#[derive(Clone, Copy)]
 pub enum MapAnswer {
     Done,
     Refused(Refusal),
 }
 
 // Why a source has no labels. All but the first come with the line.
-#[derive(Drop)]
+#[derive(Clone, Copy)]
 pub enum Refusal {
     NoSource,
     ShortString(usize),
@@ -30,14 +30,14 @@ pub enum Refusal {
     TooManyLabels(usize),
 }
 
-#[derive(Drop)]
+#[derive(Clone, Copy)]
 pub struct Mapped {
     pub answer: MapAnswer,
     pub labels: Labels,
 }
 
 // After a line: the pass goes on where the answer is Done.
-#[derive(Drop)]
+#[derive(Clone, Copy)]
 struct Stand {
     answer: MapAnswer,
     address: u8,

@@ -10,7 +10,7 @@ use digits::unhex::{Unhexed, unhex};
 use replay::case::judge;
 
 // What the first word says that the line is.
-#[derive(Drop)]
+#[derive(Clone, Copy)]
 pub enum Word {
     Step,
     Run,
@@ -21,7 +21,7 @@ pub enum Word {
     Unknown,
 }
 
-#[derive(Drop)]
+#[derive(Clone, Copy)]
 pub enum Line {
     // a case, and how it compared
     Judged(Verdict),

@@ -9,7 +9,7 @@ use fields::lay::lay;
 use row::row::Row;
 
 // The length of the text, or why there is none: the program's length and its start, or the room that the text needs.
-#[derive(Drop)]
+#[derive(Clone, Copy)]
 pub enum ListAnswer {
     Listed(usize),
     TooLong { length: usize, start: u8 },

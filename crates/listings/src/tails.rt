@@ -13,7 +13,7 @@ const THIRD: u8 = 0xA7;
 const PRIME: usize = 4294967291;
 
 // The length of some texts, and a value that comes of all their bytes in order.
-#[derive(Drop)]
+#[derive(Clone, Copy)]
 struct Sum {
     length: usize,
     check: usize,

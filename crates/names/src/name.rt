@@ -5,7 +5,7 @@ ghost use Rattle.names.specs.Names.{name_of, spelled, same_text, named};
 use op::operation::{Lookup, Op};
 
 // A name by value: its bytes, 0 past its length.
-#[derive(Drop)]
+#[derive(Clone, Copy)]
 pub struct Name {
     pub bytes: [u8; 5],
     pub length: usize,

@@ -2,7 +2,7 @@
 use crate::machine::Machine;
 use effect::Fault;
 
-#[derive(Drop)]
+#[derive(Clone, Copy)]
 pub enum StepAnswer {
     Stepped,
     Halted,
@@ -12,7 +12,7 @@ pub enum StepAnswer {
 }
 
 // The machine, the input's place and the number of output bytes written, as the step leaves them.
-#[derive(Drop)]
+#[derive(Clone, Copy)]
 pub struct StepOutcome {
     pub answer: StepAnswer,
     pub machine: Machine,
@@ -20,7 +20,7 @@ pub struct StepOutcome {
     pub written: usize,
 }
 
-#[derive(Drop)]
+#[derive(Clone, Copy)]
 pub enum RunAnswer {
     Halted,
     Refused(Fault),
@@ -28,7 +28,7 @@ pub enum RunAnswer {
 }
 
 // As of the last completed step, or of the start where none completed.
-#[derive(Drop)]
+#[derive(Clone, Copy)]
 pub struct RunOutcome {
     pub answer: RunAnswer,
     pub machine: Machine,
@@ -36,25 +36,25 @@ pub struct RunOutcome {
     pub written: usize,
 }
 
-#[derive(Drop)]
+#[derive(Clone, Copy)]
 pub enum LoadAnswer {
     Loaded,
     TooLong { length: usize, start: u8 },
 }
 
-#[derive(Drop)]
+#[derive(Clone, Copy)]
 pub struct LoadOutcome {
     pub answer: LoadAnswer,
     pub machine: Machine,
 }
 
-#[derive(Drop)]
+#[derive(Clone, Copy)]
 pub enum TransferAnswer {
     Transferred,
     NoImage,
 }
 
-#[derive(Drop)]
+#[derive(Clone, Copy)]
 pub struct TransferOutcome {
     pub answer: TransferAnswer,
     pub machine: Machine,

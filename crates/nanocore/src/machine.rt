@@ -5,7 +5,7 @@ ghost use Rattle.nanocore.specs.Machine.{fresh, with_flags};
 
 use byte::flags;
 
-#[derive(Drop)]
+#[derive(Clone, Copy)]
 pub struct Machine {
     pub registers: [u8; 16],
     pub memory: [u8; 256],

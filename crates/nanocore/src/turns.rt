@@ -14,7 +14,7 @@ use effect::core::Core;
 use turn::fetch::turn;
 
 // The numbers that the turns move beside the machine's core.
-#[derive(Drop)]
+#[derive(Clone, Copy)]
 struct Tally {
     count: u16,
     limit: u16,

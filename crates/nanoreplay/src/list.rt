@@ -11,7 +11,7 @@ use std::num::wrapping_add_u64;
 const SHOWN: u64 = 20;
 
 // How many lines were read, how many cases were compared, how many of them differ, and how many lines were no whole cases.
-#[derive(Drop)]
+#[derive(Clone, Copy)]
 pub struct Tally {
     pub lines: u64,
     pub compared: u64,
@@ -20,14 +20,14 @@ pub struct Tally {
 }
 
 // How far the lines of a text were read.
-#[derive(Drop)]
+#[derive(Clone, Copy)]
 struct Lines {
     tally: Tally,
     used: usize,
 }
 
 // Where the reading stands: the bytes of an unfinished line wait at the buffer's start for more.
-#[derive(Drop)]
+#[derive(Clone, Copy)]
 struct Reading {
     tally: Tally,
     waiting: usize,

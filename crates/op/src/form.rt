@@ -4,7 +4,7 @@ ghost use Rattle.op.specs.Operations.{form_of, length_of};
 
 use crate::operation::Op;
 
-#[derive(Drop)]
+#[derive(Clone, Copy)]
 pub enum Form {
     None,
     Reg,

@@ -2,7 +2,7 @@
 ghost use Rattle.std.specs.Prelude.{◌≡◌};
 ghost use Rattle.op.specs.Operations.{byte_of, decoded};
 
-#[derive(Drop)]
+#[derive(Clone, Copy)]
 pub enum Op {
     HLT,
     NOP,
@@ -47,7 +47,7 @@ pub enum Op {
 }
 
 // What a byte or a word stands for: an operation, or nothing. Nothing is never taken for NOP.
-#[derive(Drop)]
+#[derive(Clone, Copy)]
 pub enum Lookup {
     Found(Op),
     Unknown,

@@ -18,7 +18,7 @@ const ROOM: usize = 4096;
 const PATTERN: u8 = 0xA5;
 
 // Where the parts of a case begin that have no fixed place: the input, the answer and the output; and where the case ends by its own counts.
-#[derive(Drop)]
+#[derive(Clone, Copy)]
 pub struct Shape {
     pub input: usize,
     pub answer: usize,
@@ -27,7 +27,7 @@ pub struct Shape {
 }
 
 // The input's place, the number of bytes written before, and the length of the output buffer.
-#[derive(Drop)]
+#[derive(Clone, Copy)]
 pub struct Lent {
     pub place: usize,
     pub written: usize,

@@ -9,7 +9,7 @@ use front::front::Front;
 use text::line::Line;
 
 // The line, and the place of the byte that the next one begins with.
-#[derive(Drop)]
+#[derive(Clone, Copy)]
 pub struct Row {
     pub line: Line,
     pub next: usize,

@@ -9,7 +9,7 @@ use nanocore::machine::Machine;
 use text::line::Line;
 
 // The verdict, and how many of the output's bytes the rule printed.
-#[derive(Drop)]
+#[derive(Clone, Copy)]
 pub struct Ending {
     pub verdict: Line,
     pub written: usize,

@@ -2,7 +2,7 @@
 ghost use Rattle.std.specs.Prelude.{◌≡◌};
 ghost use Rattle.scan.specs.Class.{blank, passes};
 
-#[derive(Drop)]
+#[derive(Clone, Copy)]
 pub enum Class {
     Is(u8),
     IsNot(u8),

@@ -8,7 +8,7 @@ use scan::class::Class;
 use scan::scan::{first, last};
 
 // A stretch of a text: from its first byte to the one behind its last.
-#[derive(Drop)]
+#[derive(Clone, Copy)]
 pub struct Span {
     pub from: usize,
     pub to: usize,

@@ -11,7 +11,7 @@ use scan::class::Class;
 use scan::scan::{first, last, some};
 
 // Nothing, so many bytes of a rule, a label, a string without its two quotes, or a first word that is no operation.
-#[derive(Drop)]
+#[derive(Clone, Copy)]
 pub enum Meaning {
     Nothing,
     Bytes(usize),

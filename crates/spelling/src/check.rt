@@ -12,7 +12,7 @@ use finding::finding::Finding;
 use text::line::Line;
 
 // The length of the text, or why there is none: the rule's length, or the room that the text needs.
-#[derive(Drop)]
+#[derive(Clone, Copy)]
 pub enum CheckAnswer {
     Checked(usize),
     TooLong(usize),
@@ -40,7 +40,7 @@ pub fn check(rule: &[u8], buffer: &mut [u8]) -> CheckAnswer
 }
 
 // How long all lines but the last are, how many instructions there are, and how many in plain spelling.
-#[derive(Drop)]
+#[derive(Clone, Copy)]
 struct Tally {
     lines: usize,
     instructions: usize,

@@ -3,7 +3,7 @@ ghost use Rattle.std.specs.Prelude.{◌≡◌};
 ghost use Rattle.table.specs.Table.{no_labels};
 
 // Entries from the count on are 0.
-#[derive(Drop)]
+#[derive(Clone, Copy)]
 pub struct Labels {
     pub count: usize,
     pub places: [u16; 64],

@@ -4,7 +4,7 @@ ghost use Rattle.text.specs.Decimal.{decimal};
 ghost use Rattle.text.specs.Lines.{appended, empty_line, named};
 
 // The text stands at the start of the bytes; those behind it are 0.
-#[derive(Drop)]
+#[derive(Clone, Copy)]
 pub struct Line {
     pub bytes: [u8; 64],
     pub length: usize,

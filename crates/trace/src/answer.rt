@@ -2,7 +2,7 @@
 use nanocore::answer::RunAnswer;
 use nanocore::machine::Machine;
 
-#[derive(Drop)]
+#[derive(Clone, Copy)]
 pub enum Look {
     // A step completed, HLT's too: there is a next look.
     Completed,
@@ -11,7 +11,7 @@ pub enum Look {
 }
 
 // The machine, the input's place and the number of output bytes written, as the look leaves them.
-#[derive(Drop)]
+#[derive(Clone, Copy)]
 pub struct LookOutcome {
     pub look: Look,
     pub machine: Machine,
