@@ -3,7 +3,7 @@ use Rattle.std.specs.Prelude.{ℕ, ◌+◌, ◌%◌, Bool, true, false, not, Lis
 use Rattle.byte.specs.declared.Carried.{Carried}
 use Rattle.byte.specs.Arithmetic.{wrapped_sub}
 use Rattle.byte.specs.Flags.{zn, with_carry}
-use Rattle.effect.specs.declared.core.Core.{Core}
+use Rattle.effect.specs.declared.moves.Core.{Core}
 use Rattle.effect.specs.declared.Effect.{Effect}
 use Rattle.effect.specs.declared.Write.{Write}
 use Rattle.effect.specs.declared.Write.TheVariants.{Nothing, Register, Memory, Output}

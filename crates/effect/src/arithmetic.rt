@@ -3,7 +3,7 @@ ghost use Rattle.std.specs.Prelude.{◌≡◌};
 ghost use Rattle.effect.specs.Effects.{flagged, resulted, compared, zero_divisor, done, fate_by};
 ghost use Rattle.effect.specs.Numbers.{fate};
 
-use crate::core::Core;
+use crate::moves::Core;
 use crate::{Effect, Fault, Turn, Write};
 use byte::Carried;
 use byte::flags::{update_carry_flag, update_zn_flags};

@@ -3,7 +3,7 @@
 #![tactic(auto)]
 
 // Where the machine stands, and the plain moves from there: on, by a load, by a jump.
-pub mod core;
+pub mod moves;
 // Results with flags.
 pub mod arithmetic;
 // What goes to the stack and comes from it.

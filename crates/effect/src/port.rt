@@ -4,7 +4,7 @@ ghost use Rattle.effect.specs.Effects.{kept, taken, dry, crowded, fate_by};
 ghost use Rattle.effect.specs.Numbers.{fate};
 ghost use Rattle.effect.specs.declared.Write.TheVariants.{Output};
 
-use crate::core::Core;
+use crate::moves::Core;
 use crate::{Fault, Turn, Write};
 
 impl Core {

@@ -3,7 +3,7 @@ ghost use Rattle.std.specs.Prelude.{◌≡◌};
 ghost use Rattle.effect.specs.Effects.{ahead, pushed, popped, returned, full, empty, fate_by};
 ghost use Rattle.effect.specs.Numbers.{fate};
 
-use crate::core::Core;
+use crate::moves::Core;
 use crate::{Effect, Fault, Turn, Write};
 use byte::arithmetic::wrapping_sub;
 use std::num::wrapping_add_u8;

@@ -7,7 +7,7 @@ pub mod about;
 // A machine: fresh, loaded, stepped, run, and given an image's bytes.
 pub mod machine;
 // An instruction, decoded and encoded.
-pub mod instruction;
+pub mod instructions;
 // A program in words, and the labels of a source.
 pub mod text;
 // An image and its marks, from Intel HEX and as Intel HEX.

@@ -2,7 +2,7 @@
 -- run are need not read this.
 use Rattle.core.specs.Prelude.{ℕ, zero, suc, Bool, false, List, [], ◌∷◌}
 use Rattle.turn.specs.Turn.{turn_of}
-use Rattle.effect.specs.declared.core.Core.{Core}
+use Rattle.effect.specs.declared.moves.Core.{Core}
 use Rattle.nanocore.specs.declared.answer.RunAnswer.{RunAnswer}
 use Rattle.nanocore.specs.declared.answer.RunAnswer.TheVariants.{LimitReached}
 use Rattle.nanocore.specs.declared.answer.StepAnswer.{StepAnswer}

@@ -10,7 +10,7 @@ use crate::answer::{StepAnswer, StepOutcome};
 use crate::machine::Machine;
 use crate::write::{write_memory, write_output, write_register};
 use effect::Turn;
-use effect::core::Core;
+use effect::moves::Core;
 use turn::fetch::turn;
 
 // The numbers that the turns move beside the machine's core.

@@ -10,7 +10,7 @@ use lib.ListN.{get_or, set}
 use lib.Seq.{get_or-set_same}
 use borrow.Author.Tests.{eqb-false, lt-leb}
 use Rattle.byte.specs.Arithmetic.{wrapped_sub}
-use Rattle.effect.specs.declared.core.Core.{Core}
+use Rattle.effect.specs.declared.moves.Core.{Core}
 use Rattle.effect.specs.declared.Effect.{Effect}
 use Rattle.effect.specs.Effects.{kept, loaded, flagged, jumped, pushed, Before, nothing, halts, fault, full, empty, done, halt, fate_by}
 use Rattle.effect.specs.Numbers.{number_of}

@@ -5,7 +5,7 @@ use Rattle.byte.specs.Flags.{Z, get_flag}
 use Rattle.byte.specs.Shift.{shifted_left, shifted_right, rotated_left, rotated_right}
 use Rattle.op.specs.declared.operation.Op.{Op}
 use Rattle.op.specs.Operations.{byte_of, form_of, length_of}
-use Rattle.effect.specs.declared.core.Core.{Core}
+use Rattle.effect.specs.declared.moves.Core.{Core}
 use Rattle.effect.specs.declared.Effect.{Effect}
 use Rattle.effect.specs.declared.Write.TheVariants.{Nothing, Memory, Output}
 use Rattle.instruction.specs.declared.operands.Operands.{Operands}

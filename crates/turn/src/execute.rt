@@ -11,7 +11,7 @@ use byte::arithmetic::{
 };
 use byte::flags::{FLAG_Z, get_flag};
 use byte::shift::{rotate_left, rotate_right, shift_left, shift_right};
-use effect::core::Core;
+use effect::moves::Core;
 use effect::{Turn, Write};
 use op::operation::Op;
 use std::num::wrapping_add_u8;

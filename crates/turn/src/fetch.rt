@@ -5,7 +5,7 @@ ghost use Rattle.turn.specs.Meaning.{seen};
 ghost use Rattle.turn.specs.Turn.{turn_of};
 
 use crate::execute::execute;
-use effect::core::Core;
+use effect::moves::Core;
 use effect::{Fault, Turn};
 use op::operation::{Lookup, Op};
 use std::num::wrapping_add_u8;
