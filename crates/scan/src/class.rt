@@ -13,6 +13,7 @@ pub enum Class {
 
 impl Class {
     // Whether a byte is of this class.
+    #[tactic(auto, unfolding(crate::specs::Class::passes))]
     pub fn passes(self, byte: u8) -> bool
         ensures { result ≡ passes self byte }
     {
