@@ -47,6 +47,7 @@ pub fn put_flag(flags: u8, bit: u8, on: bool) -> u8
 }
 
 // Z from whether the byte is 0, N from its bit 7.
+#[tactic(auto, unfolding(crate::specs::Flags::zn))]
 pub fn update_zn_flags(flags: u8, res: u8) -> u8
     ensures { result ≡ zn flags res }
 {
@@ -54,6 +55,7 @@ pub fn update_zn_flags(flags: u8, res: u8) -> u8
     put_flag(z, FLAG_N, res / 128 == 1)
 }
 
+#[tactic(auto, unfolding(crate::specs::Flags::with_carry))]
 pub fn update_carry_flag(flags: u8, carry: bool) -> u8
     ensures { result ≡ with_carry flags carry }
 {
