@@ -16,7 +16,7 @@ import subprocess
 import sys
 
 CAMEL = re.compile(r"^[a-z][A-Za-z0-9_'-]*[A-Z]")
-DECLARED = re.compile(r"^\s*(?:unfoldable |abbrev |rec )*(?:pub )?(?:abbrev )?([a-zA-Z][^\s(){}:]*)\s*:\s")
+DECLARED = re.compile(r"^\s*(?:unfoldable |abbrev |rec )*(?:pub )?(?:abbrev )?([a-zA-Z][^\s(){}:]*)\s*:(?:\s|$)")
 TOKEN = re.compile(r"[^\s(){}\[\];,.@\"`=·:]+")
 PIECES = re.compile(r'("(?:[^"\\]|\\.)*")')
 # lemmas whose name in snake case is a definition's, spelled by port.py so that the two would fall together

@@ -7,7 +7,7 @@ use Rattle.answer_number.specs.declared.Numbered.{Numbered}
 use Rattle.answer_number.specs.Numbered.{numbered}
 use Rattle.answer_number.specs.Texted.{texted, texted_of}
 
-pub text_in-numbers :
+pub text_in_numbers :
     {n : Numbered} {answer text : List ℕ} {w : Written} → n ≡ numbered answer → told answer text ≡ w →
     texted n.number (n.first ∷ n.second ∷ []) text ≡ texted_of w
-text_in-numbers number answered = rw (number, sym answered)
+text_in_numbers number answered = rw (number, sym answered)

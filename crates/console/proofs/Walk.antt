@@ -48,10 +48,10 @@ use Rattle.console.proofs.Behind.{Passed, Sized, input_val, output_val, four, pa
 use Rattle.console.proofs.Taken.{mv, IsMachine, typed, takes, puts_back}
 
 -- what holds for nothing is shown beside what is owned
-shows-it :
+shows_it :
     {M : Type 1} {𝓤 : Ura M} {𝓛 : Logic 𝓤} {K : Type 0} {Γ : List (Item 𝓤)} → K → {P Q : SProp 𝓤} →
     ent 𝓤 (emp 𝓤) Q → Step K 𝓛 Γ (prop P) Γ (prop (sep 𝓤 P Q))
-shows-it {𝓤 = 𝓤} t {P} {Q} q =
+shows_it {𝓤 = 𝓤} t {P} {Q} q =
     step (λ s. record { prf = via 𝓤 P s.prf (via 𝓤 (sep 𝓤 (emp 𝓤) P) (emp∗ 𝓤 P) (via 𝓤 (sep 𝓤 Q P) (mono_l 𝓤 P q) (comm∗ 𝓤 Q P))) })
 
 -- the field at its one MIR type: of a field that is not known, what it takes in a struct would not compute
@@ -287,7 +287,7 @@ module _ (F₀ : Field) (τ : Ty) (LF : LL.FLaws (F F₀ τ)) (PF : LL.Plain (F 
               qed 𝓛 (had r zs) ∵
               suffices ! _
               (ends_at 𝓛 states stayed promises y (said r) (told r) (next r, (tt, (tt, (zs, (tt, tt))))) (tt, (tt, (tt, (l, (tt, tt)))))) $
-              shows-it ! (shown r zs e) $
+              shows_it ! (shown r zs e) $
               move ! (2 ∷ 3 ∷ []) $ join ! $ frame ! $ feq_i ! (List Val) (vptr b o ∷ []) (vptr b o ∷ []) refl $ fjoin3 ! $
               -- [what the reference owns; the last bytes; what the input owns]
               move ! (1 ∷ 2 ∷ []) $ use2 𝓛 (‵ (Left κ₁ s zs)) (leaves 𝓛 κ₁ κ₂ s sized zs) $ move ! (1 ∷ 0 ∷ []) $ fjoin ! $

@@ -9,17 +9,17 @@ use lib.ListN.{length, set, take, drop, drop_of_length-le}
 use lib.Seq.{sets, sets-eq}
 use Rattle.fields.specs.Lay.{laid}
 
-laid-append :
+laid_append :
     (buffer : List ℕ) (at : ℕ) (a b : List ℕ) → laid (laid buffer at a) (at + length a) b ≡ laid buffer at (a ++ b)
-laid-append buffer at [] b = let here : at + 0 ≡ at = omega arith in rw here
-laid-append buffer at (x ∷ a) b =
+laid_append buffer at [] b = let here : at + 0 ≡ at = omega arith in rw here
+laid_append buffer at (x ∷ a) b =
     let next : at + suc (length a) ≡ at + 1 + length a = omega arith in
-    rw next (laid-append (set buffer at x) (at + 1) a b)
+    rw next (laid_append (set buffer at x) (at + 1) a b)
 
 pub laid_next :
     {n : ℕ} (buffer : List ℕ) (at : ℕ) (a b : List ℕ) → n ≡ length a →
     laid (laid buffer at a) (at + n) b ≡ laid buffer at (a ++ b)
-laid_next buffer at a b e = rw e (laid-append buffer at a b)
+laid_next buffer at a b e = rw e (laid_append buffer at a b)
 
 as_sets : (buffer : List ℕ) (at : ℕ) (text : List ℕ) → laid buffer at text ≡ sets buffer at text
 as_sets buffer at [] = refl
@@ -31,11 +31,11 @@ pub laid_filled :
     laid buffer at text ≡ take at buffer ++ text ++ drop (at + length text) buffer
 laid_filled buffer at text fits = as_sets buffer at text ∙ sets-eq text buffer at fits
 
-pub laid-whole :
+pub laid_whole :
     (buffer text : List ℕ) → length text ≤ length buffer → laid buffer 0 text ≡ text ++ drop (length text) buffer
-laid-whole buffer text fits = simp zero-add at (laid_filled buffer 0 text (omega arith))
+laid_whole buffer text fits = simp zero-add at (laid_filled buffer 0 text (omega arith))
 
 -- what is laid over as many bytes takes their place
 pub laid_over : (old new : List ℕ) → length old ≡ length new → laid old 0 new ≡ new
 laid_over old new same =
-    laid-whole old new (omega arith) ∙ rw (drop_of_length-le old {i = length new} (omega arith)) (append-nil new)
+    laid_whole old new (omega arith) ∙ rw (drop_of_length-le old {i = length new} (omega arith)) (append-nil new)

@@ -10,13 +10,13 @@ use borrow.Author.Tests.{lt-leb}
 use Rattle.fields.specs.Read.{byte_at, word_at, stretch}
 
 -- one byte more of a stretch stands at its end
-pub stretch-more :
+pub stretch_more :
     (bytes : List ℕ) (at n : ℕ) → stretch bytes at (suc n) ≡ stretch bytes at n ++ (byte_at bytes (at + n) ∷ [])
-stretch-more bytes at zero = let here : at ≡ at + 0 = omega arith in ap (λ k. byte_at bytes k ∷ []) here
-stretch-more bytes at (suc n) =
+stretch_more bytes at zero = let here : at ≡ at + 0 = omega arith in ap (λ k. byte_at bytes k ∷ []) here
+stretch_more bytes at (suc n) =
     let next : at + 1 + n ≡ at + suc n = omega arith in
     ap (λ s. byte_at bytes at ∷ s)
-    (stretch-more bytes (at + 1) n ∙ ap (λ k. stretch bytes (at + 1) n ++ (byte_at bytes k ∷ [])) next)
+    (stretch_more bytes (at + 1) n ∙ ap (λ k. stretch bytes (at + 1) n ++ (byte_at bytes k ∷ [])) next)
 
 -- a stretch that the bytes have is a part of them
 pub stretch_part : (bytes : List ℕ) (at n : ℕ) → at + n ≤ length bytes → stretch bytes at n ≡ take n (drop at bytes)

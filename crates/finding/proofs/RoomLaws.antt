@@ -17,7 +17,7 @@ use Rattle.text.proofs.LineLaws.{Holds, line_holds}
 use Rattle.front.specs.declared.front.Front.{Front}
 use Rattle.front.specs.declared.front.Front.TheVariants.{Whole, Alone}
 use Rattle.front.specs.Front.{front_of}
-use Rattle.front.proofs.SpacedLaws.{spaced-length}
+use Rattle.front.proofs.SpacedLaws.{spaced_length}
 use Rattle.finding.specs.Found.{found_at, found_by}
 use Rattle.finding.specs.Line.{line_of, lines_of}
 
@@ -43,7 +43,7 @@ encoded_within o a e = let few = encoded_few o a in rw e (omega arith)
 line_length :
     (address : ℕ) (bytes plainly : List ℕ) → length bytes ≤ 3 → length plainly ≤ 3 → length (line_of address bytes plainly) ≤ 29
 unfolding line_of
-line_length address bytes plainly few plain = simp (length-append, spaced-length pair_of 2 (λ b. refl)) (omega arith)
+line_length address bytes plainly few plain = simp (length-append, spaced_length pair_of 2 (λ b. refl)) (omega arith)
 
 -- what is said of what the bytes begin with: one line of an instruction that has at most three bytes, or nothing
 by_short : (front : Front) (address : ℕ) (bytes : List ℕ) → length (lines_of (found_by front address bytes)) ≤ 29
@@ -61,7 +61,7 @@ pub lines_short : (address : ℕ) (bytes : List ℕ) → length (lines_of (found
 lines_short address bytes = by_short (front_of bytes) address bytes
 
 -- so it is on its Line whole
-pub found-holds :
+pub found_holds :
     (address : ℕ) (bytes : List ℕ) {line : Line} → line ≡ lined (lines_of (found_at address bytes)) →
     Holds (lines_of (found_at address bytes)) line
-found-holds address bytes = line_holds (lines_of (found_at address bytes)) (omega (arith, lines_short address bytes))
+found_holds address bytes = line_holds (lines_of (found_at address bytes)) (omega (arith, lines_short address bytes))

@@ -14,7 +14,7 @@ use Rattle.fields.specs.Read.{byte_at}
 use Rattle.instruction.specs.declared.operands.Operands.{Operands}
 use Rattle.instruction.specs.Decode.{Decoding, instruction, refused, decoded_of}
 use Rattle.instruction.specs.Plain.{is_plain, spelled, spelling_by, spelling_of}
-use Rattle.instruction.proofs.PlainLaws.{plain-first}
+use Rattle.instruction.proofs.PlainLaws.{plain_first}
 use Rattle.front.specs.declared.front.Front.TheVariants.{Whole, Alone}
 use Rattle.front.specs.Front.{front_by, front_of, size_of}
 
@@ -22,16 +22,16 @@ use Rattle.front.specs.Front.{front_by, front_of, size_of}
 abbrev pub Within : ℕ → ℕ → Type 0
 Within left size = (1 ≤ size) × (size ≤ left)
 
-whole-or-alone :
+whole_or_alone :
     (b : Bool) (o : Op) (a : Operands) (plain : Bool) (byte left : ℕ) → 0 < left → (b ≡ true → length_of (form_of o) ≤ left) →
     Within left (size_of (cond b (Whole o a plain) (Alone byte)))
-whole-or-alone true o a plain byte left some fits = ((length_within (form_of o)).0, fits refl)
-whole-or-alone false o a plain byte left some fits = (omega arith, some)
+whole_or_alone true o a plain byte left some fits = ((length_within (form_of o)).0, fits refl)
+whole_or_alone false o a plain byte left some fits = (omega arith, some)
 
 by_within : (d : Decoding) (bytes : List ℕ) → 0 < length bytes → Within (length bytes) (size_of (front_by d bytes))
 by_within (instruction o a) bytes some =
     let size = length_of (form_of o) in
-    whole-or-alone (leb size (length bytes)) o a (is_plain o a bytes) (get_or bytes 0 0) (length bytes) some (leb-true size (length bytes))
+    whole_or_alone (leb size (length bytes)) o a (is_plain o a bytes) (get_or bytes 0 0) (length bytes) some (leb-true size (length bytes))
 by_within (refused answer) bytes some = (omega arith, some)
 
 pub size_within : (bytes : List ℕ) → 0 < length bytes → Within (length bytes) (size_of (front_of bytes))
@@ -57,12 +57,12 @@ module _
     front_read d h = rw (← e, ← f, ← g, ← h)
 
     -- the spelling of three bytes is that of those that are there: an instruction that is whole has no more
-    pub spelling-read :
+    pub spelling_read :
         (o : Op) (a : Operands) (plain : Bool) → instruction o a ≡ decoded_of one two three → spelled plain ≡ spelling_of one two three →
         length_of (form_of o) ≤ length bytes → plain ≡ is_plain o a bytes
     unfolding spelling_of
-    spelling-read o a plain h k whole =
+    spelling_read o a plain h k whole =
         let said : spelled plain ≡ spelled (is_plain o a (one ∷ two ∷ three ∷ [])) =
         k ∙ ap (λ d. spelling_by d (one ∷ two ∷ three ∷ [])) (sym h) in
         let same : plain ≡ is_plain o a (one ∷ two ∷ three ∷ []) = cc in
-        same ∙ rw (e, f, g) (plain-first o a bytes whole)
+        same ∙ rw (e, f, g) (plain_first o a bytes whole)

@@ -35,10 +35,10 @@ use Rattle.front.proofs.SpokenLaws.{
   name_word,
   operand_words,
   operands_spoken,
-  operands-told,
+  operands_told,
   operands_words,
   spoken,
-  words-told,
+  words_told,
 }
 
 -- the operands that an operation has in the bytes that it begins
@@ -52,11 +52,11 @@ data Said (bytes : List ℕ) : Type 0 where
   as_data : words_of (front_of bytes) bytes ≡ then (codes ".DB") ++ spaced byte_text (stands_for bytes) → Said bytes
 
 module _ (bytes : List ℕ) (some : 0 < length bytes) where
-  whole-said :
+  whole_said :
       (o : Op) (plain : Bool) → is_plain o (operands_in o bytes) bytes ≡ plain → front_of bytes ≡ Whole o (operands_in o bytes) plain →
       Said bytes
-  whole-said o true is e = by_name o e is
-  whole-said o false is e = as_data (rw e)
+  whole_said o true is e = by_name o e is
+  whole_said o false is e = as_data (rw e)
 
   alone_said : front_of bytes ≡ Alone (get_or bytes 0 0) → Said bytes
   alone_said e = as_data (rw e (ap (λ text. then (codes ".DB") ++ text) (first bytes some)))
@@ -74,7 +74,7 @@ module _ (bytes : List ℕ) (some : 0 < length bytes) where
           (o : Op) (fits : Bool) →
           front_of bytes ≡ cond fits (Whole o (operands_in o bytes) (is_plain o (operands_in o bytes) bytes)) (Alone (get_or bytes 0 0)) →
           Said bytes
-      by_length o true e = whole-said o (is_plain o (operands_in o bytes) bytes) refl e
+      by_length o true e = whole_said o (is_plain o (operands_in o bytes) bytes) refl e
       by_length o false e = alone_said e
 
       by_lookup : (l : Lookup) → decoded (get_or bytes 0 0) ≡ l → Said bytes
@@ -115,27 +115,27 @@ unfolding named
 not_data o e = true≢false (ap known (sym (named_name o) ∙ ap named e))
 
 -- bytes that are listed by name are what encode gives
-by_name-stands :
+by_name_stands :
     (bytes : List ℕ) (o : Op) → front_of bytes ≡ Whole o (operands_in o bytes) true → is_plain o (operands_in o bytes) bytes ≡ true →
     stands_for bytes ≡ take (length_of (form_of o)) (encoded_of o (operands_in o bytes)).bytes
-by_name-stands bytes o e plain =
+by_name_stands bytes o e plain =
     rw e (sym (same_over_lem (length_of (form_of o)) (encoded_of o (operands_in o bytes)).bytes bytes plain))
 
-heard-told :
+heard_told :
     (bytes others : List ℕ) (s : Said bytes) (t : Said others) → Bytes bytes → Bytes others →
     heard bytes s ≡ heard others t → stands_for bytes ≡ stands_for others
-heard-told bytes others (by_name o e plain) (by_name p f plainly) is are same =
+heard_told bytes others (by_name o e plain) (by_name p f plainly) is are same =
     let one : o ≡ p = name_injective o p (ap (λ l. get_or l 0 []) same) in
     let words : operand_words (operands_in p bytes) ≡ operand_words (operands_in p others) =
     ap (λ o. operand_words (operands_in o bytes)) (sym one) ∙ ap (drop 1) same in
     let operands : operands_in o bytes ≡ operands_in p others =
     ap (λ o. operands_in o bytes) one
-    ∙ operands-told (get_or bytes 1 0) (get_or bytes 2 0) (get_or others 1 0) (get_or others 2 0) (byte_low bytes 1 is) (byte_low bytes 2 is)
+    ∙ operands_told (get_or bytes 1 0) (get_or bytes 2 0) (get_or others 1 0) (get_or others 2 0) (byte_low bytes 1 is) (byte_low bytes 2 is)
     (byte_low others 1 are) (byte_low others 2 are) (form_of p) words in
-    cc (by_name-stands bytes o e plain, by_name-stands others p f plainly, one, operands)
-heard-told bytes others (by_name o e plain) (as_data f) is are same = absurd (not_data o (ap (λ l. get_or l 0 []) same))
-heard-told bytes others (as_data e) (by_name p f plain) is are same = absurd (not_data p (sym (ap (λ l. get_or l 0 []) same)))
-heard-told bytes others (as_data e) (as_data f) is are same =
+    cc (by_name_stands bytes o e plain, by_name_stands others p f plainly, one, operands)
+heard_told bytes others (by_name o e plain) (as_data f) is are same = absurd (not_data o (ap (λ l. get_or l 0 []) same))
+heard_told bytes others (as_data e) (by_name p f plain) is are same = absurd (not_data p (sym (ap (λ l. get_or l 0 []) same)))
+heard_told bytes others (as_data e) (as_data f) is are same =
     bytes_told (stands_for bytes) (stands_for others) (bytes_take (size_of (front_of bytes)) bytes is)
     (bytes_take (size_of (front_of others)) others are) (ap (drop 1) same)
 
@@ -147,25 +147,25 @@ module _ (a b : ℕ) (bytes others : List ℕ) (some : 0 < length bytes) (more :
   theirs = said others more
 
   -- equal texts that begin with lines have equal addresses there, and equal words, and go on alike
-  parts-told :
+  parts_told :
       (s t : List ℕ) → line_at a bytes ++ s ≡ line_at b others ++ t →
       (byte_text a ≡ byte_text b) × ((heard bytes ours ≡ heard others theirs) × (s ≡ t))
-  parts-told s t e =
+  parts_told s t e =
       let text = ap (λ l. l ++ s) (sym (line_spoken a bytes ours)) ∙ e ∙ ap (λ l. l ++ t) (line_spoken b others theirs) in (
         ap (take 4) text,
-        words-told (heard bytes ours) (heard others theirs) s t (heard_words bytes ours) (heard_words others theirs) (ap (drop 4) text),
+        words_told (heard bytes ours) (heard others theirs) s t (heard_words bytes ours) (heard_words others theirs) (ap (drop 4) text),
       )
 
   -- so they begin with one line
   pub line_told : (s t : List ℕ) → line_at a bytes ++ s ≡ line_at b others ++ t → (line_at a bytes ≡ line_at b others) × (s ≡ t)
   line_told s t e =
-      let parts = parts-told s t e in
+      let parts = parts_told s t e in
       (cc (line_spoken a bytes ours, line_spoken b others theirs, parts.0, parts.1.0), parts.1.1)
 
 pub line_tells_bytes : LineTellsBytes
 line_tells_bytes a b bytes others is are some more e =
-    let parts = parts-told a b bytes others some more [] [] (ap (λ l. l ++ []) e) in
-    heard-told bytes others (said bytes some) (said others more) is are parts.1.0
+    let parts = parts_told a b bytes others some more [] [] (ap (λ l. l ++ []) e) in
+    heard_told bytes others (said bytes some) (said others more) is are parts.1.0
 
 -- no line is empty
 pub line_some : (a : ℕ) (bytes rest : List ℕ) → [] ≡ line_at a bytes ++ rest → ⊥

@@ -9,14 +9,14 @@ use lib.Seq.{drop-cons}
 use Rattle.front.specs.Line.{spaced, then}
 
 module _ (text : ℕ → List ℕ) where
-  pub spaced-next :
+  pub spaced_next :
       (bytes : List ℕ) (at : ℕ) → at < length bytes →
       spaced text (drop at bytes) ≡ then (text (get_or bytes at 0)) ++ spaced text (drop (at + 1) bytes)
-  spaced-next bytes at h = rw (add-one at, drop-cons bytes at 0 h)
+  spaced_next bytes at h = rw (add-one at, drop-cons bytes at 0 h)
 
   -- a space and the text for each
-  pub spaced-length :
+  pub spaced_length :
       (width : ℕ) → ((b : ℕ) → length (text b) ≡ width) → (bytes : List ℕ) → length (spaced text bytes) ≡ length bytes * (1 + width)
-  spaced-length width each [] = omega arith
-  spaced-length width each (b ∷ bs) =
-      omega (arith, length-append (then (text b)) (spaced text bs), each b, spaced-length width each bs)
+  spaced_length width each [] = omega arith
+  spaced_length width each (b ∷ bs) =
+      omega (arith, length-append (then (text b)) (spaced text bs), each b, spaced_length width each bs)

@@ -10,7 +10,7 @@ use Rattle.fields.specs.Bytes.{Bytes}
 use Rattle.text.specs.Decimal.{decimal}
 use Rattle.text.specs.Text.{line_end}
 use Rattle.text.proofs.ReadBack.{decimal_injective}
-use Rattle.text.proofs.WordLaws.{Above, above_less, above_tested, all_above, decimal_above, word-told}
+use Rattle.text.proofs.WordLaws.{Above, above_less, above_tested, all_above, decimal_above, word_told}
 use Rattle.op.specs.declared.form.Form.{Form}
 use Rattle.op.specs.declared.operation.Op.{Op}
 use Rattle.op.proofs.Laws.{agree}
@@ -35,15 +35,15 @@ part_low [] s = omega arith
 part_low (w ∷ ws) s = omega arith
 
 -- equal texts begin with equal words, and go on alike
-pub words-told :
+pub words_told :
     (vs ws : List (List ℕ)) (s t : List ℕ) → Words vs → Words ws → spoken vs ++ s ≡ spoken ws ++ t → (vs ≡ ws) × (s ≡ t)
-words-told [] [] s t is are e = (refl, ap (drop 1) e)
-words-told [] (w ∷ ws) s t is are e = absurd (omega (arith, ap (λ l. get_or l 0 0) e))
-words-told (v ∷ vs) [] s t is are e = absurd (omega (arith, ap (λ l. get_or l 0 0) e))
-words-told (v ∷ vs) (w ∷ ws) s t is are e =
+words_told [] [] s t is are e = (refl, ap (drop 1) e)
+words_told [] (w ∷ ws) s t is are e = absurd (omega (arith, ap (λ l. get_or l 0 0) e))
+words_told (v ∷ vs) [] s t is are e = absurd (omega (arith, ap (λ l. get_or l 0 0) e))
+words_told (v ∷ vs) (w ∷ ws) s t is are e =
     let same = sym (append_assoc v (spoken vs) s) ∙ ap (drop 1) e ∙ append_assoc w (spoken ws) t in
-    let first = word-told 32 v w (spoken vs ++ s) (spoken ws ++ t) is.0 are.0 (part_low vs s) (part_low ws t) same in
-    let rest = words-told vs ws s t is.1 are.1 first.1 in
+    let first = word_told 32 v w (spoken vs ++ s) (spoken ws ++ t) is.0 are.0 (part_low vs s) (part_low ws t) same in
+    let rest = words_told vs ws s t is.1 are.1 first.1 in
     (cc (first.0, rest.0), rest.1)
 
 pub name_word : (o : Op) → Above 32 (name_of o)
@@ -109,16 +109,16 @@ module _ (two three two' three' : ℕ) (h : two < 256) (k : three < 256) (h' : t
   low_told = register_told (two % 16) (two' % 16) (omega arith) (omega arith)
 
   -- operands that were read by one form
-  pub operands-told :
+  pub operands_told :
       (f : Form) → operand_words (operands_of f two three) ≡ operand_words (operands_of f two' three') →
       operands_of f two three ≡ operands_of f two' three'
-  operands-told Form.None e = refl
-  operands-told Form.Reg e = ap Reg (low_told (ap (λ l. get_or l 0 []) e))
-  operands-told Form.RegImm e =
+  operands_told Form.None e = refl
+  operands_told Form.Reg e = ap Reg (low_told (ap (λ l. get_or l 0 []) e))
+  operands_told Form.RegImm e =
       cc (low_told (ap (λ l. get_or l 0 []) e), byte_told three three' k k' (ap (λ l. get_or l 1 []) e))
-  operands-told Form.RegReg e =
+  operands_told Form.RegReg e =
       let high = register_told (two / 16) (two' / 16) (omega arith) (omega arith) (ap (λ l. get_or l 0 []) e) in
       cc (high, low_told (ap (λ l. get_or l 1 []) e))
-  operands-told Form.RegAddr e =
+  operands_told Form.RegAddr e =
       cc (low_told (ap (λ l. get_or l 0 []) e), byte_told three three' k k' (ap (λ l. get_or l 1 []) e))
-  operands-told Form.Addr e = ap Addr (byte_told two two' h h' (ap (λ l. get_or l 0 []) e))
+  operands_told Form.Addr e = ap Addr (byte_told two two' h h' (ap (λ l. get_or l 0 []) e))

@@ -13,8 +13,8 @@ use Rattle.hexline.specs.Row.{Row, fills, ends, refused as row_refused, row_of}
 use Rattle.hexread.specs.File.{Sheet, sheet, placed, Progress, goes, ended, refused, put, after, turn, Outcome, accepted, rejected, onward, lines_from, file_of, told_by, reading_of, told}
 use Rattle.hexlaws.specs.Order.{Reordered, same, swapped, behind, again, Lines, joined}
 use Rattle.hexlaws.proofs.Refusals.{HighEnd, lines_high}
-use Rattle.hexlaws.proofs.Lines.{line-joined, line-fills}
-use Rattle.hexlaws.proofs.Placing.{Whole, Fits, goes-fits, placed-whole, second_alone, first_behind, placed_swap}
+use Rattle.hexlaws.proofs.Lines.{line_joined, line_fills}
+use Rattle.hexlaws.proofs.Placing.{Whole, Fits, goes_fits, placed_whole, second_alone, first_behind, placed_swap}
 
 -- a line that the reading goes on behind is a record that fits
 record Filled (number : ℕ) (s : Sheet) (line : List ℕ) (next : Sheet → Outcome) (t : Sheet) : Type 0 where
@@ -30,19 +30,19 @@ by_turn (fills address held) number s line next b rest t row e = put_turn (put n
   where
     put_turn : (p : Progress) → put number s address held ≡ p → onward p next (b ∷ rest) ≡ accepted t → Filled number s line next t
     put_turn (goes u) is e =
-        let fit = goes-fits number address held is in
+        let fit = goes_fits number address held is in
         record { address = address; held = held; row = row; fits = fit.0; left = ap next fit.1 ∙ e }
     put_turn (ended u) is e = let z : ◌≡◌ {A = ℕ} 0 1 = cc in absurd (omega arith)
     put_turn (refused a) is e = let z : ◌≡◌ {A = ℕ} 0 1 = cc in absurd (omega arith)
 by_turn ends number s line next b rest t row e = let z : ◌≡◌ {A = ℕ} 0 1 = cc in absurd (omega arith)
 by_turn (row_refused n) number s line next b rest t row e = let z : ◌≡◌ {A = ℕ} 0 1 = cc in absurd (omega arith)
 
-read-line :
+read_line :
     (number : ℕ) (s : Sheet) (line rest : List ℕ) (t : Sheet) → first (Is 0x0a) line ≡ length line → 0 < length rest →
     lines_from number [] s (line ++ (0x0a ∷ rest)) ≡ accepted t → Filled number s line (λ s. lines_from (number + 1) [] s rest) t
 unfolding turn
-read-line number s line [] t h some e = absurd (omega arith)
-read-line number s line (b ∷ rest) t h some e =
+read_line number s line [] t h some e = absurd (omega arith)
+read_line number s line (b ∷ rest) t h some e =
     by_turn
     (row_of line)
     number
@@ -53,7 +53,7 @@ read-line number s line (b ∷ rest) t h some e =
     rest
     t
     refl
-    (sym (line-joined number s line (b ∷ rest) h) ∙ e)
+    (sym (line_joined number s line (b ∷ rest) h) ∙ e)
 
 joined_some : (lines : List (List ℕ)) (rest : List ℕ) → 0 < length rest → 0 < length (joined lines rest)
 joined_some [] rest some = some
@@ -70,19 +70,19 @@ reordered :
     Whole s → lines_from number [] s (joined lines rest) ≡ accepted t → lines_from number [] s (joined others rest) ≡ accepted t
 reordered same are rest some number s t whole e = e
 reordered (swapped {a} {b} {lines}) are rest some number s t whole e =
-    let f = read-line number s a (joined (b ∷ lines) rest) t are.0 (joined_some (b ∷ lines) rest some) e in
-    let g = read-line (number + 1) (placed s f.address f.held) b (joined lines rest) t are.1.0 (joined_some lines rest some) f.left in
+    let f = read_line number s a (joined (b ∷ lines) rest) t are.0 (joined_some (b ∷ lines) rest some) e in
+    let g = read_line (number + 1) (placed s f.address f.held) b (joined lines rest) t are.1.0 (joined_some lines rest some) f.left in
     let x = f.address in
     let xs = f.held in
     let y = g.address in
     let ys = g.held in
-    line-fills number s b (joined (a ∷ lines) rest) t are.1.0 g.row (second_alone whole x xs y ys f.fits g.fits)
-    (line-fills (number + 1) (placed s y ys) a (joined lines rest) t are.0 f.row (first_behind whole x xs y ys f.fits g.fits)
+    line_fills number s b (joined (a ∷ lines) rest) t are.1.0 g.row (second_alone whole x xs y ys f.fits g.fits)
+    (line_fills (number + 1) (placed s y ys) a (joined lines rest) t are.0 f.row (first_behind whole x xs y ys f.fits g.fits)
     (rw (placed_swap whole x xs y ys f.fits g.fits) g.left))
 reordered (behind {a} {lines} {others} r) are rest some number s t whole e =
-    let f = read-line number s a (joined lines rest) t are.0 (joined_some lines rest some) e in
-    line-fills number s a (joined others rest) t are.0 f.row f.fits
-    (reordered r are.1 rest some (number + 1) (placed s f.address f.held) t (placed-whole s f.address f.held whole f.fits.inside) f.left)
+    let f = read_line number s a (joined lines rest) t are.0 (joined_some lines rest some) e in
+    line_fills number s a (joined others rest) t are.0 f.row f.fits
+    (reordered r are.1 rest some (number + 1) (placed s f.address f.held) t (placed_whole s f.address f.held whole f.fits.inside) f.left)
 reordered (again r q) are rest some number s t whole e =
     reordered q (still_lines r are) rest some number s t whole (reordered r are rest some number s t whole e)
 

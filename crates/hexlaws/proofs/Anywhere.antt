@@ -18,31 +18,31 @@ use Rattle.hexline.specs.Row.{Row, fills, ends, refused as row_refused, row_of}
 use Rattle.hexread.specs.File.{Sheet, sheet, placed, Progress, goes, ended, refused, put, after, turn, Outcome, accepted, rejected, onward, lines_from, file_of, told, told_by, reading_of}
 use Rattle.hexlaws.specs.Back.{ones_of}
 use Rattle.hexlaws.specs.Meaning.{clear, holds, cell_at, meaning_of, meaning_by, byte_or, mark, map_over, marks_over, onto_image}
-use Rattle.hexlaws.proofs.Placing.{Whole, placed-laid, placed-whole}
+use Rattle.hexlaws.proofs.Placing.{Whole, placed_laid, placed_whole}
 
 -- an image with what a sheet has over it, and the sheet's marks
 abbrev onto : List ℕ → Sheet → Sheet
 onto base s = sheet (overlaid base s.image s.marks) s.marks
 
-overlaid-set :
+overlaid_set :
     (base image marks : List ℕ) (i v : ℕ) → length base ≡ length image → length image ≡ length marks →
     overlaid base (set image i v) (set marks i 1) ≡ set (overlaid base image marks) i v
 unfolding overlaid
-overlaid-set [] [] [] i v e f = refl
-overlaid-set [] [] (m ∷ ms) i v e f = absurd (omega arith)
-overlaid-set [] (b ∷ bs) marks i v e f = absurd (omega arith)
-overlaid-set (x ∷ xs) [] marks i v e f = absurd (omega arith)
-overlaid-set (x ∷ xs) (b ∷ bs) [] i v e f = absurd (omega arith)
-overlaid-set (x ∷ xs) (b ∷ bs) (m ∷ ms) zero v e f = refl
-overlaid-set (x ∷ xs) (b ∷ bs) (m ∷ ms) (suc i) v e f = ap (λ l. cond (eqb m 0) x b ∷ l) (overlaid-set xs bs ms i v (omega arith) (omega arith))
+overlaid_set [] [] [] i v e f = refl
+overlaid_set [] [] (m ∷ ms) i v e f = absurd (omega arith)
+overlaid_set [] (b ∷ bs) marks i v e f = absurd (omega arith)
+overlaid_set (x ∷ xs) [] marks i v e f = absurd (omega arith)
+overlaid_set (x ∷ xs) (b ∷ bs) [] i v e f = absurd (omega arith)
+overlaid_set (x ∷ xs) (b ∷ bs) (m ∷ ms) zero v e f = refl
+overlaid_set (x ∷ xs) (b ∷ bs) (m ∷ ms) (suc i) v e f = ap (λ l. cond (eqb m 0) x b ∷ l) (overlaid_set xs bs ms i v (omega arith) (omega arith))
 
-overlaid-laid :
+overlaid_laid :
     (base image marks : List ℕ) (a : ℕ) (held : List ℕ) → length base ≡ length image → length image ≡ length marks →
     overlaid base (laid image a held) (laid marks a (replicate (length held) 1)) ≡ laid (overlaid base image marks) a held
-overlaid-laid base image marks a [] e f = refl
-overlaid-laid base image marks a (v ∷ held) e f =
-    overlaid-laid base (set image a v) (set marks a 1) (a + 1) held (e ∙ sym (length-set image a v)) (length-set image a v ∙ f ∙ sym (length-set marks a 1))
-    ∙ ap (λ l. laid l (a + 1) held) (overlaid-set base image marks a v e f)
+overlaid_laid base image marks a [] e f = refl
+overlaid_laid base image marks a (v ∷ held) e f =
+    overlaid_laid base (set image a v) (set marks a 1) (a + 1) held (e ∙ sym (length-set image a v)) (length-set image a v ∙ f ∙ sym (length-set marks a 1))
+    ∙ ap (λ l. laid l (a + 1) held) (overlaid_set base image marks a v e f)
 
 ones_set : (marks : List ℕ) (i : ℕ) → ones_of (set marks i 1) ≡ set (ones_of marks) i 1
 unfolding ones_of
@@ -84,17 +84,17 @@ module _ (base : List ℕ) (base-long : length base ≡ 256) where
   Ends (rejected a) (accepted s) = ⊥
   Ends (rejected a) (rejected b) = a ≡ b
 
-  placed-beside :
+  placed_beside :
       (s : Sheet) (a : ℕ) (held : List ℕ) → Tidy s → (0 < length held → a + length held ≤ 256) → Beside (placed (onto base s) a held) (placed s a held)
   unfolding Beside
-  placed-beside s a held tidy inside =
+  placed_beside s a held tidy inside =
       let whole = tidy.whole in
-      let here = placed-laid s a held whole inside in
-      let there = placed-laid (onto base s) a held (onto_whole whole) inside in
-      let over = overlaid-laid base s.image s.marks a held (base-long ∙ sym whole.image) (whole.image ∙ sym whole.marks) in (
+      let here = placed_laid s a held whole inside in
+      let there = placed_laid (onto base s) a held (onto_whole whole) inside in
+      let over = overlaid_laid base s.image s.marks a held (base-long ∙ sym whole.image) (whole.image ∙ sym whole.marks) in (
         there ∙ sym (ap (onto base) here ∙ ap (λ image. sheet image (laid s.marks a (replicate (length held) 1))) over),
         record {
-          whole = placed-whole s a held whole inside;
+          whole = placed_whole s a held whole inside;
           ones =
               subst (λ t. ones_of t.marks ≡ t.marks) (sym here)
               (ones_laid (length held) s.marks a ∙ ap (λ marks. laid marks a (replicate (length held) 1)) tidy.ones);
@@ -113,9 +113,9 @@ module _ (base : List ℕ) (base-long : length base ≡ 256) where
           (cond (are && past) (refused (23 ∷ number ∷ [])) (cond twice (refused (24 ∷ number ∷ [])) (goes (placed s a held))))
       by true true twice h p = refl
       by true false true h p = refl
-      by true false false h p = placed-beside s a held tidy (λ _. ltb-false 256 (a + length held) p)
+      by true false false h p = placed_beside s a held tidy (λ _. ltb-false 256 (a + length held) p)
       by false past true h p = refl
-      by false past false h p = placed-beside s a held tidy (λ some. absurd (omega (arith, ltb-false 0 (length held) h)))
+      by false past false h p = placed_beside s a held tidy (λ some. absurd (omega (arith, ltb-false 0 (length held) h)))
 
   turn_keeps : (row : Row) (number : ℕ) (s : Sheet) → Tidy s → Keeps (after row number (onto base s)) (after row number s)
   unfolding Keeps Beside
@@ -123,20 +123,20 @@ module _ (base : List ℕ) (base-long : length base ≡ 256) where
   turn_keeps ends number s tidy = (refl, tidy)
   turn_keeps (row_refused n) number s tidy = refl
 
-  onward-ends :
+  onward_ends :
       (p q : Progress) (next : Sheet → Outcome) (rest : List ℕ) → Keeps p q → ((s : Sheet) → Tidy s → Ends (next (onto base s)) (next s)) →
       Ends (onward p next rest) (onward q next rest)
   unfolding Keeps Ends Beside
-  onward-ends (goes t) (goes s) next rest k all = rw k.0 (all s k.1)
-  onward-ends (goes t) (ended s) next rest k all = absurd k
-  onward-ends (goes t) (refused b) next rest k all = absurd k
-  onward-ends (ended t) (goes s) next rest k all = absurd k
-  onward-ends (ended t) (ended s) next [] k all = k
-  onward-ends (ended t) (ended s) next (b ∷ rest) k all = refl
-  onward-ends (ended t) (refused b) next rest k all = absurd k
-  onward-ends (refused a) (goes s) next rest k all = absurd k
-  onward-ends (refused a) (ended s) next rest k all = absurd k
-  onward-ends (refused a) (refused b) next rest k all = k
+  onward_ends (goes t) (goes s) next rest k all = rw k.0 (all s k.1)
+  onward_ends (goes t) (ended s) next rest k all = absurd k
+  onward_ends (goes t) (refused b) next rest k all = absurd k
+  onward_ends (ended t) (goes s) next rest k all = absurd k
+  onward_ends (ended t) (ended s) next [] k all = k
+  onward_ends (ended t) (ended s) next (b ∷ rest) k all = refl
+  onward_ends (ended t) (refused b) next rest k all = absurd k
+  onward_ends (refused a) (goes s) next rest k all = absurd k
+  onward_ends (refused a) (ended s) next rest k all = absurd k
+  onward_ends (refused a) (refused b) next rest k all = k
 
   lines_end :
       (number : ℕ) (line : List ℕ) (s : Sheet) (text : List ℕ) → Tidy s →
@@ -150,7 +150,7 @@ module _ (base : List ℕ) (base-long : length base ≡ 256) where
       (onward (after (row_of line) number s) next rest)
       (lines_from number (line ++ (b ∷ [])) (onto base s) rest)
       (lines_from number (line ++ (b ∷ [])) s rest)
-      (onward-ends
+      (onward_ends
       (after (row_of line) number (onto base s))
       (after (row_of line) number s)
       next
@@ -181,14 +181,14 @@ ones_clear (suc n) = ap (λ l. 0 ∷ l) (ones_clear n)
 
 -- a sheet, as the map that it is
 module _ (s : Sheet) where
-  map-over :
+  map_over_lem :
       (base : List ℕ) (k : ℕ) → k + length base ≡ length s.image → k + length base ≡ length s.marks →
       overlaid base (drop k s.image) (drop k s.marks) ≡ map_over (cell_at s) k base
   unfolding overlaid map_over
-  map-over [] k i m = refl
-  map-over (b ∷ bs) k i m =
+  map_over_lem [] k i m = refl
+  map_over_lem (b ∷ bs) k i m =
       rw (drop-cons s.image k 0 (omega arith), drop-cons s.marks k 0 (omega arith), ← add-one k)
-      (either (eqb (get_or s.marks k 0) 0) (map-over bs (k + 1) (omega arith) (omega arith)))
+      (either (eqb (get_or s.marks k 0) 0) (map_over_lem bs (k + 1) (omega arith) (omega arith)))
     where
       either :
           (c : Bool) {l k' : List ℕ} → l ≡ k' →
@@ -196,14 +196,14 @@ module _ (s : Sheet) where
       either true e = ap (λ l. b ∷ l) e
       either false e = ap (λ l. get_or s.image k 0 ∷ l) e
 
-  marks-over :
+  marks_over_lem :
       (found : List ℕ) (k : ℕ) → k + length found ≡ length s.marks →
       ones_of (drop k s.marks) ≡ marks_over (cell_at s) k found
   unfolding ones_of marks_over
-  marks-over [] k m = rw (drop_of_length-le s.marks {i = k} (omega arith))
-  marks-over (b ∷ bs) k m =
+  marks_over_lem [] k m = rw (drop_of_length-le s.marks {i = k} (omega arith))
+  marks_over_lem (b ∷ bs) k m =
       let first : drop k s.marks ≡ get_or s.marks k 0 ∷ drop (k + 1) s.marks = rw (add-one k) (drop-cons s.marks k 0 (omega arith)) in
-      ap ones_of first ∙ either (eqb (get_or s.marks k 0) 0) (marks-over bs (k + 1) (omega arith))
+      ap ones_of first ∙ either (eqb (get_or s.marks k 0) 0) (marks_over_lem bs (k + 1) (omega arith))
     where
       either :
           (c : Bool) {l k' : List ℕ} → l ≡ k' → cond c 0 1 ∷ l ≡ mark (cond c clear (holds (get_or s.image k 0))) ∷ k'
@@ -216,8 +216,8 @@ module _ (image marks : List ℕ) (image-long : length image ≡ 256) (marks-lon
   meant (accepted t) (accepted s) k =
       let whole = k.1.whole in
       ap (λ t. told (0 ∷ []) t.image t.marks) k.0
-      ∙ ap (λ bytes. told (0 ∷ []) bytes s.marks) (map-over s image 0 (omega (arith, whole.image)) (omega (arith, whole.marks)))
-      ∙ ap (told (0 ∷ []) (map_over (cell_at s) 0 image)) (sym k.1.ones ∙ marks-over s marks 0 (omega (arith, whole.marks)))
+      ∙ ap (λ bytes. told (0 ∷ []) bytes s.marks) (map_over_lem s image 0 (omega (arith, whole.image)) (omega (arith, whole.marks)))
+      ∙ ap (told (0 ∷ []) (map_over (cell_at s) 0 image)) (sym k.1.ones ∙ marks_over_lem s marks 0 (omega (arith, whole.marks)))
   meant (accepted t) (rejected b) k = absurd k
   meant (rejected a) (accepted s) k = absurd k
   meant (rejected a) (rejected b) k = ap (λ answer. told answer image marks) k

@@ -30,9 +30,9 @@ module _
       (rw (eq-eqb (length image) 256 image-long, eq-eqb (length marks) 256 marks-long) at writes)
 
   -- the reading is accepted, the other image has the marked bytes and keeps its own, and the marks are those that were written
-  pub written-then-read :
+  pub written_then_read :
       (r : ReadAnswer) (image' marks' : List ℕ) → told (read_number r) image' marks' ≡ reading_of (take n after) other found →
       (r ≡ Done) × (image' ≡ overlaid other image marks) × (marks' ≡ ones_of marks)
-  written-then-read r image' marks' reads =
+  written_then_read r image' marks' reads =
       let back = rw text_there at reads ∙ read_written image marks other found image-long marks-long other-long found-long are in
       (read_number_injective r Done (ap (λ t. t.answer) back), ap (λ t. t.image) back, ap (λ t. t.marks) back)

@@ -29,19 +29,19 @@ first_end (b ∷ line) rest h = by (eqb b 0x0a) h (first_end line rest)
     by false h next = ap suc (next (omega arith))
 
 -- a line with its LF, before the rest
-pub line-joined :
+pub line_joined :
     (number : ℕ) (s : Sheet) (line rest : List ℕ) → first (Is 0x0a) line ≡ length line →
     lines_from number [] s (line ++ (0x0a ∷ rest)) ≡ onward (turn number s line) (λ s. lines_from (number + 1) [] s rest) rest
-line-joined number s line rest h =
+line_joined number s line rest h =
     let end = first_end line rest h in
     rw (end, take-append_seam line (0x0a ∷ rest), drop-append-add line (0x0a ∷ rest) 1)
     at (line_read number [] s (line ++ (0x0a ∷ rest)) (rw end (omega (arith, length-append line (0x0a ∷ rest)))))
 
 -- a record that fits is placed, and the reading goes on
-pub line-fills :
+pub line_fills :
     (number : ℕ) (s : Sheet) (line rest : List ℕ) (t : Sheet) → first (Is 0x0a) line ≡ length line →
     {address : ℕ} {held : List ℕ} → row_of line ≡ fills address held → Fits s address held →
     lines_from (number + 1) [] (placed s address held) rest ≡ accepted t → lines_from number [] s (line ++ (0x0a ∷ rest)) ≡ accepted t
 unfolding turn
-line-fills number s line rest t h {address} {held} row fits next =
-    line-joined number s line rest h ∙ rw (row, fits_goes number address held fits) next
+line_fills number s line rest t h {address} {held} row fits next =
+    line_joined number s line rest h ∙ rw (row, fits_goes number address held fits) next

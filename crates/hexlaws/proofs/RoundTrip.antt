@@ -22,12 +22,12 @@ use Rattle.hexline.specs.Spelling.{digits_of}
 use Rattle.hexread.specs.File.{Sheet, sheet, filled, placed, turn, accepted, told_by, lines_from, reading_of}
 use Rattle.hexwrite.specs.Writer.{run, text_of}
 use Rattle.hexwrite.proofs.RunLaws.{run_short, run_within, run_set, run_unset}
-use Rattle.hexwrite.proofs.WalkLaws.{rest, text_rest, rest_none, rest_clear, rest-run}
+use Rattle.hexwrite.proofs.WalkLaws.{rest, text_rest, rest_none, rest_clear, rest_run}
 use Rattle.hexlaws.specs.Back.{ones_of, back_of}
 use Rattle.hexlaws.proofs.RowBack.{word_solid, word_row, end_row}
 use Rattle.hexlaws.proofs.Placing.{Fits}
-use Rattle.hexlaws.proofs.Lines.{line-joined, line-fills}
-use Rattle.hexlaws.proofs.Splices.{spliced, splice-same, splice-run, splice_behind, splice_all}
+use Rattle.hexlaws.proofs.Lines.{line_joined, line_fills}
+use Rattle.hexlaws.proofs.Splices.{spliced, splice_same, splice_run, splice_behind, splice_all}
 
 -- a text without blanks holds no LF
 solid_line : (l : List ℕ) → Above 47 l → first (Is 0x0a) l ≡ length l
@@ -46,15 +46,15 @@ ones_at [] k = refl
 ones_at (m ∷ ms) zero = refl
 ones_at (m ∷ ms) (suc k) = ones_at ms k
 
-overlaid-at :
+overlaid_at :
     (other image marks : List ℕ) (k : ℕ) → k < length other → k < length image → k < length marks →
     get_or (overlaid other image marks) k 0 ≡ cond (eqb (get_or marks k 0) 0) (get_or other k 0) (get_or image k 0)
 unfolding overlaid
-overlaid-at [] image marks k h i m = absurd (omega arith)
-overlaid-at (x ∷ xs) [] marks k h i m = absurd (omega arith)
-overlaid-at (x ∷ xs) (b ∷ bs) [] k h i m = absurd (omega arith)
-overlaid-at (x ∷ xs) (b ∷ bs) (n ∷ ms) zero h i m = refl
-overlaid-at (x ∷ xs) (b ∷ bs) (n ∷ ms) (suc k) h i m = overlaid-at xs bs ms k (omega arith) (omega arith) (omega arith)
+overlaid_at [] image marks k h i m = absurd (omega arith)
+overlaid_at (x ∷ xs) [] marks k h i m = absurd (omega arith)
+overlaid_at (x ∷ xs) (b ∷ bs) [] k h i m = absurd (omega arith)
+overlaid_at (x ∷ xs) (b ∷ bs) (n ∷ ms) zero h i m = refl
+overlaid_at (x ∷ xs) (b ∷ bs) (n ∷ ms) (suc k) h i m = overlaid_at xs bs ms k (omega arith) (omega arith) (omega arith)
 
 -- n bytes from a on, by their places
 part_length : (l : List ℕ) (a n : ℕ) → a + n ≤ length l → length (take n (drop a l)) ≡ n
@@ -75,13 +75,13 @@ part_same l k a n h g same =
 -- the end record
 end_read : (number : ℕ) (s : Sheet) → lines_from number [] s (line_of 1 0 []) ≡ accepted s
 unfolding line_of digits_of first passes turn
-end_read number s = line-joined number s (word_of 1 0 []) [] refl ∙ rw end_row
+end_read number s = line_joined number s (word_of 1 0 []) [] refl ∙ rw end_row
 
 -- a line of data before other text
-line-apart :
+line_apart :
     (a : ℕ) (held others last : List ℕ) → line_of 0 a held ++ others ++ last ≡ word_of 0 a held ++ (0x0a ∷ (others ++ last))
 unfolding line_of
-line-apart a held others last =
+line_apart a held others last =
     append_assoc (word_of 0 a held ++ line_end) others last ∙ append_assoc (word_of 0 a held) line_end (others ++ last)
 
 -- an image with its marks, another to be read onto, and its clear marks
@@ -110,10 +110,10 @@ module _
         let here : a + 0 ≡ a = omega arith in
         let unset : get_or marks a 0 ≡ 0 = rw (get_or-drop a marks 0 0, here) at (run_unset a (drop a marks) none) in
         let test = eq-eqb (get_or marks a 0) 0 unset in
-        let byte : get_or over a 0 ≡ get_or other a 0 = rw test at (overlaid-at other image marks a (omega arith) (omega arith) (omega arith)) in
+        let byte : get_or over a 0 ≡ get_or other a 0 = rw test at (overlaid_at other image marks a (omega arith) (omega arith) (omega arith)) in
         let mark : get_or (ones_of marks) a 0 ≡ get_or zeros a 0 = rw test at (ones_at marks a) ∙ sym (zeros-at a) in
-        ap (λ image. sheet image (spliced (ones_of marks) zeros (a + 1))) (splice-same over other a (omega (arith, over_long)) (omega arith) byte)
-        ∙ ap (sheet (spliced over other a)) (splice-same (ones_of marks) zeros a (omega (arith, ones_long)) (omega arith) mark)
+        ap (λ image. sheet image (spliced (ones_of marks) zeros (a + 1))) (splice_same over other a (omega (arith, over_long)) (omega arith) byte)
+        ∙ ap (sheet (spliced over other a)) (splice_same (ones_of marks) zeros a (omega (arith, ones_long)) (omega arith) mark)
 
     module _ (n : ℕ) (is : run a (drop a marks) ≡ n) where
       run_inside : a + n ≤ 256
@@ -132,7 +132,7 @@ module _
           part_same over image a n (omega (arith, over_long, run_inside)) (omega (arith, run_inside))
           (λ i h.
           rw (ne_eqb (get_or marks (a + i) 0) 0 (set i h))
-          at (overlaid-at other image marks (a + i) (omega (arith, run_inside)) (omega (arith, run_inside)) (omega (arith, run_inside))))
+          at (overlaid_at other image marks (a + i) (omega (arith, run_inside)) (omega (arith, run_inside)) (omega (arith, run_inside))))
 
       run_marks : take n (drop a (ones_of marks)) ≡ replicate n 1
       run_marks =
@@ -152,9 +152,9 @@ module _
           let ones-size : length ones ≡ n = length-replicate {A = ℕ} (length held) 1 ∙ held_long in
           let marks-there : take n (drop a (ones_of marks)) ≡ ones = run_marks ∙ ap (λ k. replicate k 1) (sym held_long) in
           ap (λ image. sheet image (filled (spliced (ones_of marks) zeros a) a ones))
-          (splice-run over other a n held (omega (arith, over_long)) held_long run_bytes)
+          (splice_run over other a n held (omega (arith, over_long)) held_long run_bytes)
           ∙ ap (sheet (spliced over other (a + n)))
-          (splice-run (ones_of marks) zeros a n ones (omega (arith, ones_long)) ones-size marks-there)
+          (splice_run (ones_of marks) zeros a n ones (omega (arith, ones_long)) ones-size marks-there)
 
       run_fits : Fits (so_far a) a (take n (drop a image))
       unfolding so_far
@@ -164,11 +164,11 @@ module _
   all_read a number e = rw (rest_none image marks a (omega arith), e) (end_read number (so_far 256))
 
   -- the records that are left, and the end record, lead from what is read so far to all of it
-  left-read :
+  left_read :
       (fuel a number : ℕ) → a ≤ 256 → 256 ≤ a + fuel →
       lines_from number [] (so_far a) (rest image marks a ++ line_of 1 0 []) ≡ accepted (so_far 256)
-  left-read zero a number low reach = all_read a number (omega arith)
-  left-read (suc fuel) a number low reach = by (leb 256 a) refl (run a (drop a marks)) refl (left-read fuel)
+  left_read zero a number low reach = all_read a number (omega arith)
+  left_read (suc fuel) a number low reach = by (leb 256 a) refl (run a (drop a marks)) refl (left_read fuel)
     where
       by :
           (end : Bool) → leb 256 a ≡ end → (n : ℕ) → run a (drop a marks) ≡ n →
@@ -184,8 +184,8 @@ module _
           let held = take (suc n) (drop a image) in
           let few : length held < 256 = omega (arith, held_long a inside (suc n) is, run_short a (drop a marks)) in
           let bytes : Bytes held = bytes_take (suc n) (drop a image) (bytes_drop a image are) in
-          rw (rest-run image marks a is (omega arith) (omega arith), line-apart a held (rest image marks (a + suc n)) (line_of 1 0 []))
-          (line-fills
+          rw (rest_run image marks a is (omega arith) (omega arith), line_apart a held (rest image marks (a + suc n)) (line_of 1 0 []))
+          (line_fills
           number
           (so_far a)
           (word_of 0 a held)
@@ -214,7 +214,7 @@ module _
       let ones-size : length (ones_of marks) ≡ 256 = ones_length marks ∙ marks-long in
       rw (eq-eqb (length other) 256 other-long, eq-eqb (length found) 256 found-long, text_rest image marks)
       (ap (λ o. told_by o other found)
-      (left-read image marks other zeros image-long marks-long other-long refl (zeros_clear 256) are 256 0 1 (omega arith) (omega arith))
+      (left_read image marks other zeros image-long marks-long other-long refl (zeros_clear 256) are 256 0 1 (omega arith) (omega arith))
       ∙ rw (splice_all over other 256 (omega arith) (omega arith), splice_all (ones_of marks) zeros 256 (omega arith) (omega arith)))
 
   -- the writer's text is always accepted

@@ -12,16 +12,16 @@ abbrev pub spliced : List ℕ → List ℕ → ℕ → List ℕ
 spliced new old a = take a new ++ drop a old
 
 -- a byte in which they agree makes no difference
-pub splice-same :
+pub splice_same :
     (new old : List ℕ) (a : ℕ) → a < length new → a < length old → get_or new a 0 ≡ get_or old a 0 → spliced new old (a + 1) ≡ spliced new old a
-splice-same new old a h k same =
+splice_same new old a h k same =
     rw (add-one a, take-suc new a 0 h, drop-cons old a 0 k, ← same) (append_snoc (take a new) (get_or new a 0) (drop (suc a) old))
 
 -- a stretch of the new is filled
-pub splice-run :
+pub splice_run :
     (new old : List ℕ) (a n : ℕ) (held : List ℕ) → a ≤ length new → length held ≡ n → take n (drop a new) ≡ held →
     filled (spliced new old a) a held ≡ spliced new old (a + n)
-splice-run new old a n held h size is =
+splice_run new old a n held h size is =
     let long : length (take a new) ≡ a = length-take-le a new h in
     let before : take a (spliced new old a) ≡ take a new = take_at (take a new) (drop a old) a long in
     let behind : drop (a + n) (spliced new old a) ≡ drop (a + n) old =

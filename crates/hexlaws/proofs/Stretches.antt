@@ -22,24 +22,24 @@ pub length_laid : (l : List ℕ) (a : ℕ) (xs : List ℕ) → length (laid l a 
 length_laid l a [] = refl
 length_laid l a (x ∷ xs) = length_laid (set l a x) (a + 1) xs ∙ length-set l a x
 
-set-laid :
+set_laid :
     (l : List ℕ) (i v b : ℕ) (ys : List ℕ) → Outside i b (length ys) → laid (set l i v) b ys ≡ set (laid l b ys) i v
-set-laid l i v b [] out = refl
-set-laid l i v b (y ∷ ys) out =
+set_laid l i v b [] out = refl
+set_laid l i v b (y ∷ ys) out =
     let other : i ≢ b = λ e. out (omega (arith, e)) (omega (arith, e)) in
-    rw (set_comm l i b v y other) (set-laid (set l b y) i v (b + 1) ys (λ h k. out (omega arith) (omega arith)))
+    rw (set_comm l i b v y other) (set_laid (set l b y) i v (b + 1) ys (λ h k. out (omega arith) (omega arith)))
 
 -- two stretches that do not meet
 abbrev pub Apart : ℕ → ℕ → ℕ → ℕ → Type 0
 Apart a n b m = (i : ℕ) → a ≤ i → i < a + n → Outside i b m
 
-pub laid-swap :
+pub laid_swap :
     (l : List ℕ) (a : ℕ) (xs : List ℕ) (b : ℕ) (ys : List ℕ) → Apart a (length xs) b (length ys) →
     laid (laid l a xs) b ys ≡ laid (laid l b ys) a xs
-laid-swap l a [] b ys apart = refl
-laid-swap l a (x ∷ xs) b ys apart =
-    laid-swap (set l a x) (a + 1) xs b ys (λ i h k. apart i (omega arith) (omega arith))
-    ∙ ap (λ l. laid l (a + 1) xs) (set-laid l a x b ys (apart a (omega arith) (omega arith)))
+laid_swap l a [] b ys apart = refl
+laid_swap l a (x ∷ xs) b ys apart =
+    laid_swap (set l a x) (a + 1) xs b ys (λ i h k. apart i (omega arith) (omega arith))
+    ∙ ap (λ l. laid l (a + 1) xs) (set_laid l a x b ys (apart a (omega arith) (omega arith)))
 
 -- outside the stretch everything is as it was
 pub laid_outside : (l : List ℕ) (a : ℕ) (xs : List ℕ) (k : ℕ) → Outside k a (length xs) → get_or (laid l a xs) k 0 ≡ get_or l k 0
@@ -49,10 +49,10 @@ laid_outside l a (x ∷ xs) k out =
     ∙ get_or-set_other l a k x 0 (λ e. out (omega (arith, e)) (omega (arith, e)))
 
 -- inside it are the ones
-pub laid-ones :
+pub laid_ones :
     (n : ℕ) (l : List ℕ) (a k : ℕ) → a ≤ k → k < a + n → a + n ≤ length l → get_or (laid l a (replicate n 1)) k 0 ≡ 1
-laid-ones zero l a k h j room = absurd (omega arith)
-laid-ones (suc n) l a k h j room = by (eqb k a) refl (laid-ones n (set l a 1) (a + 1) k)
+laid_ones zero l a k h j room = absurd (omega arith)
+laid_ones (suc n) l a k h j room = by (eqb k a) refl (laid_ones n (set l a 1) (a + 1) k)
   where
     by :
         (b : Bool) → eqb k a ≡ b →

@@ -45,20 +45,20 @@ module _ (address : ℕ) (low : address < 256) (held : List ℕ) where
       (ap digits_of front_whole ∙ digits_append (front address held) held)
 
   -- from the sums of the four and of the data
-  pub sums-make :
+  pub sums_make :
       {four filled all last : ℕ} → four ≡ total (front address held) % 256 → filled ≡ total held % 256 →
       all ≡ (four + filled) % 256 → (last + all) % 256 ≡ 0 → last < 256 → last ≡ checksum (front_of 0 address held)
-  sums-make {last = last} f h a l small =
+  sums_make {last = last} f h a l small =
       let whole : total (front address held) + total held ≡ total (front_of 0 address held) = front_total (length held) address (total held) low in
       let all = a ∙ rw (f, h) (sum_parts (total (front address held)) (total held)) ∙ ap (λ t. t % 256) whole in
       makes_0 last (total (front_of 0 address held)) (rw all at l) small
 
-  pub pieces-make :
+  pub pieces_make :
       {last : ℕ} {begun four filled whole line : Line} → last ≡ checksum (front_of 0 address held) → begun ≡ lined (codes ":") →
       four ≡ appended begun (digits_of (front address held)) → filled ≡ appended four (digits_of held) →
       whole ≡ appended filled (digits_of (last ∷ [])) → line ≡ appended whole line_end → line ≡ lined (line_of 0 address held)
   unfolding line_of
-  pieces-make {last} sum b f h w l =
+  pieces_make {last} sum b f h w l =
       let colon = codes ":" in
       let at-four = f ∙ onto empty_line colon (digits_of (front address held)) b in
       let at_held = h ∙ onto empty_line (colon ++ digits_of (front address held)) (digits_of held) at-four in

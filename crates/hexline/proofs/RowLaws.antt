@@ -107,9 +107,9 @@ not_fills shape fill = let z : ◌≡◌ {A = ℕ} 0 1 = cc in absurd (omega ari
 pub unspelled : (s : Spelled) → s.whole ≡ false → {t : Spelling} → spelling s ≡ t → row_spelled t ≡ refused 20
 unspelled s torn e = ap row_spelled (sym e) ∙ rw torn
 
-pub bytes-tell :
+pub bytes_tell :
     (s : Spelled) → s.whole ≡ true → {t : Spelling} → spelling s ≡ t → row_by (take s.count s.bytes) ≡ row_spelled t
-bytes-tell s whole e = sym (ap row_spelled (sym e) ∙ rw whole)
+bytes_tell s whole e = sym (ap row_spelled (sym e) ∙ rw whole)
 
 -- a line up to an end, of which the first byte is a colon or not
 module _ (line : List ℕ) {end : ℕ} (cut : without_return line ≡ take end line) where

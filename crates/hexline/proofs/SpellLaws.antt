@@ -74,7 +74,7 @@ module _ {text filled : List ℕ} {count i : ℕ} (at : Spelt text filled count 
               ∙ at.left);
         }
 
-pub digits-next :
+pub digits_next :
     (bs : List ℕ) (i : ℕ) → i < length bs → digits_of (drop i bs) ≡ pair_of (get_or bs i 0) ++ digits_of (drop (i + 1) bs)
 unfolding digits_of
-digits-next bs i h = rw (add-one i, drop-cons bs i 0 h)
+digits_next bs i h = rw (add-one i, drop-cons bs i 0 h)

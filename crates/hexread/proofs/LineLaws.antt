@@ -53,13 +53,13 @@ line_read number line s (b ∷ rest) h = by (eqb b 0x0a) h (line_read number (li
         rw (behind, ← append_assoc line (b ∷ []) (take f rest)) (next (omega arith))
 
 -- without LF there is no line
-pub line-open :
+pub line_open :
     (number : ℕ) (line : List ℕ) (s : Sheet) (text : List ℕ) → 0 < length line + length text → length text ≤ first (Is 0x0a) text →
     lines_from number line s text ≡ rejected (20 ∷ number ∷ [])
 unfolding lines_from first passes
-line-open number [] s [] some h = absurd (omega arith)
-line-open number (c ∷ line) s [] some h = refl
-line-open number line s (b ∷ rest) some h = by (eqb b 0x0a) h (line-open number (line ++ (b ∷ [])) s rest (omega (arith, length-append line (b ∷ []))))
+line_open number [] s [] some h = absurd (omega arith)
+line_open number (c ∷ line) s [] some h = refl
+line_open number line s (b ∷ rest) some h = by (eqb b 0x0a) h (line_open number (line ++ (b ∷ [])) s rest (omega (arith, length-append line (b ∷ []))))
   where
     by :
         (end : Bool) → suc (length rest) ≤ cond end 0 (suc (first (Is 0x0a) rest)) →
@@ -81,12 +81,12 @@ module _ (s : Sheet) (next : Sheet → Outcome) (text : List ℕ) (k : ℕ) wher
 module _
     (text : List ℕ) (at end number : ℕ) (s : Sheet) (inside : at < length text) (ends : end ≡ at + first (Is 0x0a) (drop at text)) where
   pub unclosed : length text ≤ end → rejected (20 ∷ number ∷ []) ≡ lines_from number [] s (drop at text)
-  unclosed past = sym (line-open number [] s (drop at text) (omega (arith, length-drop at text)) (omega (arith, length-drop at text)))
+  unclosed past = sym (line_open number [] s (drop at text) (omega (arith, length-drop at text)) (omega (arith, length-drop at text)))
 
   module _ (closed : end < length text) {p : Progress} (read : p ≡ turn number s (take (end - at) (drop at text))) where
-    pub line-here :
+    pub line_here :
         onward p (λ s. lines_from (number + 1) [] s (drop (end + 1) text)) (drop (end + 1) text) ≡ lines_from number [] s (drop at text)
-    line-here =
+    line_here =
         let size : first (Is 0x0a) (drop at text) ≡ end - at = omega arith in
         let behind : at + (end - at + 1) ≡ end + 1 = omega arith in
         let line = rw (size, drop-drop (end - at + 1) at text, behind) at (line_read number [] s (drop at text) (omega (arith, length-drop at text))) in

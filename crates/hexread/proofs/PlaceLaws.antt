@@ -60,7 +60,7 @@ module _ (number : ℕ) (image marks : List ℕ) (address : ℕ) (held : List �
           rw (lt-ltb 0 (length held) some-held, le-ltb 256 (address + length held) inside, rw size at twice)
 
       module _ (image-long : length image ≡ 256) (marks-long : length marks ≡ 256) where
-        pub newly-set :
+        pub newly_set :
             some (IsNot 0) (take (address + length held - address) (drop address marks)) ≡ false →
             {stretch ones : List ℕ} → stretch ≡ laid (take (address + length held - address) (drop address image)) 0 held →
             ones ≡ replicate (length (take (address + length held - address) (drop address marks))) 1 →
@@ -70,7 +70,7 @@ module _ (number : ℕ) (image marks : List ℕ) (address : ℕ) (held : List �
             (put_mid address (address + length held - address) marks ones))
             ≡ put number (sheet image marks) address held
         unfolding put
-        newly-set fresh s o =
+        newly_set fresh s o =
             let size : address + length held - address ≡ length held = omega arith in
             let stretch-long = part_length image address (length held) (omega arith) in
             let marks-there = part_length marks address (length held) (omega arith) in
@@ -89,9 +89,9 @@ module _ (number : ℕ) (image marks : List ℕ) (address : ℕ) (held : List �
             )
 
 -- address and data of a record that is as long as it says, from its bytes
-pub of-record :
+pub of_record :
     (number : ℕ) (s : Sheet) (bs : List ℕ) {high low : ℕ} → high ≡ get_or bs 1 0 → low ≡ get_or bs 2 0 → length bs ≡ count_of bs + 5 →
     put number s (high * 256 + low) (take (length bs - 1 - 4) (drop 4 bs)) ≡ put number s (address_of bs) (data_of bs)
-of-record number s bs h l whole =
+of_record number s bs h l whole =
     let size : length bs - 1 - 4 ≡ count_of bs = omega arith in
     rw (h, l, size)

@@ -72,7 +72,7 @@ module _ (a : ReadAnswer) (count : ℕ) (h : InRange a) (hc : Held count) where
   unfolding verdict_of
   verdict_fits = omega (arith, length-append (said (read_number a) count) line_end, said_few a count h hc)
 
-  pub verdict-whole :
+  pub verdict_whole :
       let l = lined (verdict_of (read_number a) count) in
       take l.length l.bytes ≡ verdict_of (read_number a) count
-  verdict-whole = holds (verdict_of (read_number a) count) verdict_fits
+  verdict_whole = holds (verdict_of (read_number a) count) verdict_fits

@@ -15,20 +15,20 @@ record_few zero address bytes = omega arith
 record_few (suc k) address bytes =
     omega (arith, line_length 0 address (take (suc k) bytes), length-take (suc k) bytes)
 
-records-few :
+records_few :
     (done address : ℕ) (image marks : List ℕ) → length (records_from done address image marks) ≤ 14 * (length marks - done)
 unfolding records_from
-records-few done address [] marks = omega arith
-records-few done address (b ∷ bs) [] = omega arith
-records-few (suc done) address (b ∷ bs) (m ∷ ms) = omega (arith, records-few done (address + 1) bs ms)
-records-few zero address (b ∷ bs) (m ∷ ms) =
+records_few done address [] marks = omega arith
+records_few done address (b ∷ bs) [] = omega arith
+records_few (suc done) address (b ∷ bs) (m ∷ ms) = omega (arith, records_few done (address + 1) bs ms)
+records_few zero address (b ∷ bs) (m ∷ ms) =
     let n = run address (m ∷ ms) in
     omega (
       arith,
       length-append (run_line n address (b ∷ bs)) (records_from (n - 1) (address + 1) bs ms),
       record_few n address (b ∷ bs),
       run_within address (m ∷ ms),
-      records-few (n - 1) (address + 1) bs ms,
+      records_few (n - 1) (address + 1) bs ms,
     )
 
 -- a buffer of 3,596 bytes or more is never answered by 14
@@ -37,6 +37,6 @@ text_fits image marks h =
     omega (
       arith,
       simp length-append at (ap length (text_rest image marks)),
-      records-few 0 0 image marks,
+      records_few 0 0 image marks,
       line_length 1 0 [],
     )

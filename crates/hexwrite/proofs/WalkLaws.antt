@@ -26,14 +26,14 @@ skipped (suc k) address (b ∷ bs) (m ∷ ms) =
     let next : address + 1 + k ≡ address + suc k = omega arith in
     rw next at (skipped k (address + 1) bs ms)
 
-run-first :
+run_first :
     (n address : ℕ) (image marks : List ℕ) → run address marks ≡ n → 0 < n → 0 < length image →
     records_from 0 address image marks ≡ line_of 0 address (take n image) ++ records_from 0 (address + n) (drop n image) (drop n marks)
 unfolding records_from
-run-first zero address image marks e set some = absurd (omega arith)
-run-first (suc k) address [] marks e set some = absurd (omega arith)
-run-first (suc k) address (b ∷ bs) [] e set some = absurd (omega (arith, run_within address []))
-run-first (suc k) address (b ∷ bs) (m ∷ ms) e set some =
+run_first zero address image marks e set some = absurd (omega arith)
+run_first (suc k) address [] marks e set some = absurd (omega arith)
+run_first (suc k) address (b ∷ bs) [] e set some = absurd (omega (arith, run_within address []))
+run_first (suc k) address (b ∷ bs) (m ∷ ms) e set some =
     let next : address + 1 + k ≡ address + suc k = omega arith in
     let less : suc k - 1 ≡ k = omega arith in
     rw (e, less, ← next) (ap (λ left. line_of 0 address (b ∷ take k bs) ++ left) (skipped k (address + 1) bs ms))
@@ -62,9 +62,9 @@ module _ (image marks : List ℕ) (at : ℕ) where
   pub rest_clear : run at (drop at marks) ≡ 0 → rest image marks at ≡ rest image marks (at + 1)
   rest_clear unset = clear_first at (drop at image) (drop at marks) unset ∙ rw (drop-drop 1 at image, drop-drop 1 at marks)
 
-  pub rest-run :
+  pub rest_run :
       {n : ℕ} → run at (drop at marks) ≡ n → 0 < n → at < length image →
       rest image marks at ≡ line_of 0 at (take n (drop at image)) ++ rest image marks (at + n)
-  rest-run {n} is set h =
-      run-first n at (drop at image) (drop at marks) is set (omega (arith, length-drop at image))
+  rest_run {n} is set h =
+      run_first n at (drop at image) (drop at marks) is set (omega (arith, length-drop at image))
       ∙ rw (drop-drop n at image, drop-drop n at marks)

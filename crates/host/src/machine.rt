@@ -1,7 +1,7 @@
 // A machine that the host keeps as its record, in place.
 ghost use Rattle.std.specs.Prelude.{true, ◌≡◌};
 ghost use Rattle.record.specs.Record.{is_record};
-ghost use Rattle.host_machine.specs.Machine.{fresh_of, kept, load_from, loaded, moved, run_from, stepFrom, transfer_from};
+ghost use Rattle.host_machine.specs.Machine.{fresh_of, kept, load_from, loaded, moved, run_from, step_from, transfer_from};
 
 use host_machine::fresh::fresh;
 use host_machine::load::load;
@@ -41,7 +41,7 @@ pub extern "C" fn nanocore_step(
     values: &mut [usize; 2],
 ) -> usize
     ensures written_after { moved result values.new machine.new place.new output.new written.new
-        ≡ stepFrom machine.old input.now place.old output.old written.old values.old }
+        ≡ step_from machine.old input.now place.old output.old written.old values.old }
     ensures machine_after { is_record machine.old ≡ true → is_record machine.new ≡ true }
 {
     step(machine, input, place, output, written, values)

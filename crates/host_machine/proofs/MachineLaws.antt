@@ -14,29 +14,29 @@ use Rattle.nanocore.specs.Step.{Answered, Situation, situated}
 use Rattle.nanocore.specs.Transfer.{Transferring, transfer_of}
 use Rattle.record.specs.Record.{is_record, machine_of, record_of}
 use Rattle.record.proofs.Crossing.{record_long}
-use Rattle.host_machine.specs.Machine.{kept, load_from, loaded, moveBy, moved, transfer_from}
+use Rattle.host_machine.specs.Machine.{kept, load_from, loaded, move_by, moved, transfer_from}
 
 -- the bytes after the machine was written over a record
 abbrev pub over : Machine → List ℕ → List ℕ
 over m bytes = cond (eqb (length bytes) 296) (record_of m) bytes
 
 module _ (bytes : List ℕ) {m : Machine} {n : Numbered} {b : List ℕ} (is : is_record bytes ≡ true) (read : m ≡ machine_of bytes) where
-  pub load-crosses :
+  pub load_crosses :
       (values program : List ℕ) (start : ℕ) {l : Loading} → l ≡ load_of m program start → n ≡ numbered l.answer →
       b ≡ over l.machine bytes → loaded n.number (n.first ∷ n.second ∷ []) b ≡ load_from bytes program start values
-  load-crosses values program start answered number written =
+  load_crosses values program start answered number written =
       rw (is, number, written, eq-eqb (length bytes) 296 (record_long bytes is), answered, read)
 
-  pub move-crosses :
+  pub move_crosses :
       (values : List ℕ) (answers : Situation → Answered) (place : ℕ) (output : List ℕ) (out : ℕ) {r : Answered} →
       r ≡ answers (situated m place output out) → n ≡ numbered r.answer → b ≡ over r.after.machine bytes →
       moved n.number (n.first ∷ n.second ∷ []) b r.after.place r.after.output r.after.written
-      ≡ moveBy answers bytes place output out values
-  move-crosses values answers place output out answered number written =
+      ≡ move_by answers bytes place output out values
+  move_crosses values answers place output out answered number written =
       rw (is, number, written, eq-eqb (length bytes) 296 (record_long bytes is), answered, read)
 
-  pub transfer-crosses :
+  pub transfer_crosses :
       (image marks : List ℕ) → length image ≡ 256 → length marks ≡ 256 → {t : Transferring} → t ≡ transfer_of m image marks →
       n ≡ numbered t.answer → b ≡ over t.machine bytes → kept n.number b ≡ transfer_from bytes image marks
-  transfer-crosses image marks long marked answered number written =
+  transfer_crosses image marks long marked answered number written =
       rw (eq-eqb (length image) 256 long, eq-eqb (length marks) 256 marked, is, number, written, eq-eqb (length bytes) 296 (record_long bytes is), answered, read)

@@ -81,17 +81,17 @@ crossed r =
     r.after.written
 
 -- by what a machine in its situation answers
-abbrev pub moveBy :
+abbrev pub move_by :
     (Situation → Answered) → (bytes : List ℕ) (place : ℕ) (output : List ℕ) (written : ℕ) (values : List ℕ) → Moved
-moveBy answers bytes place output written values =
+move_by answers bytes place output written values =
     cond (is_record bytes)
     (crossed (answers (situated (machine_of bytes) place output written)))
     (moved none values bytes place output written)
 
-abbrev pub stepFrom :
+abbrev pub step_from :
     (bytes input : List ℕ) (place : ℕ) (output : List ℕ) (written : ℕ) (values : List ℕ) → Moved
-stepFrom bytes input = moveBy (step_of input) bytes
+step_from bytes input = move_by (step_of input) bytes
 
 abbrev pub run_from :
     (bytes input : List ℕ) (place : ℕ) (output : List ℕ) (written : ℕ) (values : List ℕ) → Moved
-run_from bytes input = moveBy (run_of input) bytes
+run_from bytes input = move_by (run_of input) bytes

@@ -1,7 +1,7 @@
 // One step of a machine that the host keeps as its record.
 ghost use Rattle.std.specs.Prelude.{true, ◌≡◌};
 ghost use Rattle.record.specs.Record.{is_record};
-ghost use Rattle.host_machine.specs.Machine.{moved, stepFrom};
+ghost use Rattle.host_machine.specs.Machine.{moved, step_from};
 
 use crate::NONE;
 use answers::number::step_number;
@@ -16,7 +16,7 @@ pub fn step(
     values: &mut [usize; 2],
 ) -> usize
     ensures written_after { moved result values.new machine.new place.new output.new written.new
-        ≡ stepFrom machine.old input.now place.old output.old written.old values.old }
+        ≡ step_from machine.old input.now place.old output.old written.old values.old }
     ensures machine_after { is_record machine.old ≡ true → is_record machine.new ≡ true }
 {
     if !is_record(machine) {

@@ -90,10 +90,10 @@ abbrev pub decoded_bytes : List ℕ → Decoding
 decoded_bytes bytes = decoded_of (get_or bytes 0 0) (get_or bytes 1 0) (get_or bytes 2 0)
 
 -- "Decoding gives the same back"
-pub decoded-encoded :
+pub decoded_encoded :
     (o : Op) (a : Operands) → (encoded_of o a).answer ≡ 0 ∷ [] → decoded_bytes (encoded_of o a).bytes ≡ instruction o a
 unfolding decoded_of
-decoded-encoded o a e =
+decoded_encoded o a e =
     let tests = accepted o a e in
     rw (accepts o a tests.0 tests.1, decoded_byte o, ← tests.0, read_back a tests.1)
 
@@ -115,17 +115,17 @@ registers_read Form.RegReg two three h =
 registers_read Form.RegAddr two three h = le-leb (two % 16) 15 (omega arith)
 registers_read Form.Addr two three h = refl
 
-read-from :
+read_from_lem :
     (l : Lookup) (one two three : ℕ) (o : Op) (a : Operands) → decoding_of l one two three ≡ instruction o a →
     operands_of (form_of o) two three ≡ a
-read-from (Found p) one two three o a e = cc
-read-from Unknown one two three o a e = cc
+read_from_lem (Found p) one two three o a e = cc
+read_from_lem Unknown one two three o a e = cc
 
 module _ (one two three : ℕ) (o : Op) (a : Operands) (e : decoded_of one two three ≡ instruction o a) where
   -- decoded operands were read by the operation's form
   pub read : operands_of (form_of o) two three ≡ a
   unfolding decoded_of
-  read = read-from (decoded one) one two three o a e
+  read = read_from_lem (decoded one) one two three o a e
 
   -- no decoded instruction has operands of another form: the Rust's InvalidOperand is never reached
   pub decoded_form : shape_of a ≡ form_of o

@@ -18,7 +18,7 @@ use Rattle.instruction.specs.Operands.{operands_of}
 use Rattle.instruction.specs.Decode.{instruction, decoding_of, decoded_of}
 use Rattle.instruction.specs.Encode.{encoded_of, three_bytes, three_of, two_of}
 use Rattle.instruction.specs.Plain.{Spelling, spelled, is_plain, lone_register, plain_by_form, same_over, spelling_by, spelling_of}
-use Rattle.instruction.proofs.Laws.{accepted, accepts, decoded_bytes, decoded-encoded, read, registers_read, shape_read}
+use Rattle.instruction.proofs.Laws.{accepted, accepts, decoded_bytes, decoded_encoded, read, registers_read, shape_read}
 
 -- what is the same over a length is one list up to there, and a list is the same as itself
 pub same_over_lem : (n : ℕ) (s t : List ℕ) → same_over n s t ≡ true → take n s ≡ take n t
@@ -111,10 +111,10 @@ module _ (one two three : ℕ) (o : Op) (a : Operands) (e : decoded_of one two t
         by false e = absurd (true≢false e)
 
     -- bytes in plain spelling are what encode gives
-    pub plain-encoded :
+    pub plain_encoded :
         spelling_of one two three ≡ spelled true →
         take (length_of (form_of o)) bytes ≡ take (encoded_of o a).length (encoded_of o a).bytes
-    plain-encoded plain =
+    plain_encoded plain =
         let same : is_plain o a bytes ≡ true = cc (said, plain) in
         sym (same_over_lem (length_of (form_of o)) (encoded_of o a).bytes bytes same) ∙ rw taken
 
@@ -129,10 +129,10 @@ answered one two three o e h =
     (sym stands, sym (plain_by_form_lem one two three o (operands_of (form_of o) two three) stands h))
 
 -- the spelling of the three bytes that stand first is that of all bytes, where the instruction is there whole
-pub plain-first :
+pub plain_first :
     (o : Op) (a : Operands) (bytes : List ℕ) → length_of (form_of o) ≤ length bytes →
     is_plain o a (get_or bytes 0 0 ∷ get_or bytes 1 0 ∷ get_or bytes 2 0 ∷ []) ≡ is_plain o a bytes
-plain-first o a bytes h =
+plain_first o a bytes h =
     let n = length_of (form_of o) in
     let given = (encoded_of o a).bytes in
     let first : List ℕ = get_or bytes 0 0 ∷ get_or bytes 1 0 ∷ get_or bytes 2 0 ∷ [] in
@@ -150,5 +150,5 @@ encoded_plain o a e =
     let tests = accepted o a e in
     let gives = accepts o a tests.0 tests.1 in
     rw gives
-    (said (byte_of o) (two_of a) (three_of a) o a (ap (λ x. decoded_bytes x.bytes) (sym gives) ∙ decoded-encoded o a e)
+    (said (byte_of o) (two_of a) (three_of a) o a (ap (λ x. decoded_bytes x.bytes) (sym gives) ∙ decoded_encoded o a e)
     ∙ ap spelled (rw gives (over_self (length_of (form_of o)) (three_bytes o a).bytes (length_within (form_of o)).1)))

@@ -25,10 +25,10 @@ kept_none n = record { places = refl; lengths = refl; inside = λ i h. absurd (n
 kept_readdressed : (n : ℕ) (t : Labels) (i address : ℕ) → Kept n t → Kept n (readdressed t i address)
 kept_readdressed n t i address k = record { places = k.places; lengths = k.lengths; inside = k.inside }
 
-kept-with :
+kept_with :
     (n : ℕ) (t : Labels) (place size address : ℕ) → t.count < 64 → place + size ≤ n → Kept n t →
     Kept n (with_label t place size address)
-kept-with n t place size address room in-it k =
+kept_with n t place size address room in-it k =
     record {
       places = length-set t.places t.count place ∙ k.places;
       lengths = length-set t.lengths t.count size ∙ k.lengths;
@@ -56,10 +56,10 @@ abbrev Keeps : ℕ → Progress → Type 0
 Keeps n (goes address t) = Kept n t
 Keeps n (refused answer) = Unit {0}
 
-kept-recorded :
+kept_recorded :
     (n : ℕ) (t : Labels) (i place size number address : ℕ) → place + size ≤ n → Kept n t →
     Keeps n (recorded t i place size number address)
-kept-recorded n t i place size number address in-it k = by (ltb i t.count) (ltb t.count 64) refl
+kept_recorded n t i place size number address in-it k = by (ltb i t.count) (ltb t.count 64) refl
   where
     by :
         (old room : Bool) → ltb t.count 64 ≡ room →
@@ -69,7 +69,7 @@ kept-recorded n t i place size number address in-it k = by (ltb i t.count) (ltb 
         (goes address (readdressed t i address))
         (cond room (goes address (with_label t place size address)) (refused (18 ∷ number ∷ []))))
     by true room e = kept_readdressed n t i address k
-    by false true e = kept-with n t place size address (ltb-true t.count 64 e) in-it k
+    by false true e = kept_with n t place size address (ltb-true t.count 64 e) in-it k
     by false false e = tt
 
 shorter : (k : ℕ) (l : List ℕ) → length (take k l) ≤ length l
@@ -93,20 +93,20 @@ line_within raw =
       trimmed_within (cut (trimmed raw)),
     )
 
-kept-after :
+kept_after :
     (m : Meaning) (source : List ℕ) (place number address : ℕ) (t : Labels) (raw : List ℕ) →
     place + length raw ≤ length source → Kept (length source) t →
     Keeps (length source) (after m source place number address t raw)
 unfolding labelled
-kept-after Nothing source place number address t raw h k = k
-kept-after (Bytes n) source place number address t raw h k = k
-kept-after Label source place number address t raw h k =
+kept_after Nothing source place number address t raw h k = k
+kept_after (Bytes n) source place number address t raw h k = k
+kept_after Label source place number address t raw h k =
     let at = place + first Solid raw in
     let size = last (IsNot 0x3a) (line_of raw) in
     let in-it : at + size ≤ length source = omega (arith, line_within raw, last_within (IsNot 0x3a) (line_of raw)) in
-    kept-recorded (length source) t (found source t at size) at size number address in-it k
-kept-after ShortString source place number address t raw h k = tt
-kept-after NoOperation source place number address t raw h k = tt
+    kept_recorded (length source) t (found source t at size) at size number address in-it k
+kept_after ShortString source place number address t raw h k = tt
+kept_after NoOperation source place number address t raw h k = tt
 
 -- the bytes of lines, each with its LF
 abbrev bytes_of : List (List ℕ) → ℕ
@@ -124,21 +124,21 @@ lines_within (b ∷ bs) = at (eqb b 0x0a) (lines_of bs) (lines_within bs)
     at false [] h = omega arith
     at false (line ∷ lines) h = omega arith
 
-kept-pass :
+kept_pass :
     (source : List ℕ) (place number : ℕ) (p : Progress) (lines : List (List ℕ)) →
     place + bytes_of lines ≤ length source + 1 → Keeps (length source) p → Keeps (length source) (pass source place number p lines)
 unfolding pass turn
-kept-pass source place number p [] h k = k
-kept-pass source place number (goes address t) (raw ∷ lines) h k =
-    kept-pass
+kept_pass source place number p [] h k = k
+kept_pass source place number (goes address t) (raw ∷ lines) h k =
+    kept_pass
     source
     (place + (length raw + 1))
     (number + 1)
     (after (meaning_of (line_of raw)) source place number address t raw)
     lines
     (omega arith)
-    (kept-after (meaning_of (line_of raw)) source place number address t raw (omega arith) k)
-kept-pass source place number (refused answer) (raw ∷ lines) h k = tt
+    (kept_after (meaning_of (line_of raw)) source place number address t raw (omega arith) k)
+kept_pass source place number (refused answer) (raw ∷ lines) h k = tt
 
 inside_ended : (source : List ℕ) (p : Progress) → Keeps (length source) p → Inside source (ended p).labels
 unfolding Inside
@@ -155,4 +155,4 @@ names_inside source = either (ltb 16384 (length source) || some High source)
         inside_ended
         source
         (passed source)
-        (kept-pass source 0 1 (goes 0 no_labels) (lines_of source) (omega (arith, lines_within source)) (kept_none (length source)))
+        (kept_pass source 0 1 (goes 0 no_labels) (lines_of source) (omega (arith, lines_within source)) (kept_none (length source)))

@@ -3,17 +3,17 @@ use Rattle.std.proofs.Common.{◌≡◌, ℕ, ◌+◌, ◌-◌, ◌<◌, ◌≤�
 use Rattle.scan.specs.declared.class.Class.TheVariants.{Is}
 use Rattle.scan.specs.Scan.{first}
 use Rattle.source.specs.Line.{lines_of}
-use Rattle.source.proofs.LineLaws.{first-line}
+use Rattle.source.proofs.LineLaws.{first_line}
 use Rattle.table.specs.declared.labels.Labels.{Labels}
 use Rattle.labels.specs.Pass.{Progress, goes, refused, turn, pass}
 
 -- a refused line ends the pass
-pass-refused :
+pass_refused :
     (source : List ℕ) (place number : ℕ) (answer : List ℕ) (lines : List (List ℕ)) →
     pass source place number (refused answer) lines ≡ refused answer
 unfolding pass
-pass-refused source place number answer [] = refl
-pass-refused source place number answer (raw ∷ lines) = refl
+pass_refused source place number answer [] = refl
+pass_refused source place number answer (raw ∷ lines) = refl
 
 pass_on :
     (source : List ℕ) (place number address : ℕ) (t : Labels) (raw : List ℕ) (lines : List (List ℕ)) →
@@ -26,15 +26,15 @@ pass_on source place number address t raw lines = refl
 module _
     (source : List ℕ) (at end number address : ℕ) (t : Labels) (inside : at < length source) (within : end ≤ length source)
     (ends : end ≡ at + first (Is 0x0a) (drop at source)) where
-  pub line-turned :
+  pub line_turned :
       (p : Progress) → turn source at number address t (take (end - at) (drop at source)) ≡ p →
       pass source at number (goes address t) (lines_of (drop at source)) ≡
       pass source (end + 1) (number + 1) p (lines_of (drop (end + 1) source))
-  line-turned p turned =
+  line_turned p turned =
       let size : first (Is 0x0a) (drop at source) ≡ end - at = omega arith in
       let some : 0 < length (drop at source) = omega (arith, length-drop at source) in
       let raw = take (end - at) (drop at source) in
-      let lines = rw size at (first-line (drop at source) some) in
+      let lines = rw size at (first_line (drop at source) some) in
       let long : length raw ≡ end - at = length-take-le (end - at) (drop at source) (omega (arith, length-drop at source)) in
       let next : at + (end - at + 1) ≡ end + 1 = omega arith in
       ap (pass source at number (goes address t)) lines
@@ -45,4 +45,4 @@ module _
       (answer : List ℕ) → turn source at number address t (take (end - at) (drop at source)) ≡ refused answer →
       pass source at number (goes address t) (lines_of (drop at source)) ≡ refused answer
   line_refused answer turned =
-      line-turned (refused answer) turned ∙ pass-refused source (end + 1) (number + 1) answer (lines_of (drop (end + 1) source))
+      line_turned (refused answer) turned ∙ pass_refused source (end + 1) (number + 1) answer (lines_of (drop (end + 1) source))

@@ -20,10 +20,10 @@ pub rest_none : (program : List ℕ) (start at : ℕ) → length program ≤ at 
 rest_none program start at = walk_none line_at program (start + at) at
 
 -- a line, and behind it what is left from the next one on
-pub rest-turn :
+pub rest_turn :
     (program : List ℕ) (start at : ℕ) → at < length program → {next : ℕ} → next ≡ at + size_of (front_of (drop at program)) →
     rest program start at ≡ line_at (start + at) (drop at program) ++ rest program start next
-rest-turn program start at h next =
+rest_turn program start at h next =
     let size = size_of (front_of (drop at program)) in
     let behind : start + at + size ≡ start + (at + size) = omega arith in
     rw next (walk_turn line_at program (start + at) at h ∙ rw behind)

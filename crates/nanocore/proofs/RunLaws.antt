@@ -96,14 +96,14 @@ pub stopped :
     (r : Answered) (n : ℕ) → number_of r.answer ≡ n → 1 ≤ n → onward r.answer ≡ false
 stopped r n t some = onward_stop r.answer (rw t some)
 
-pub run-turns :
+pub run_turns :
     (input : List ℕ) (k : ℕ) (s : Situation) → s.machine.halted ≡ false → s.machine.count + k ≡ s.machine.limit →
     run_by k input s ≡ limited s.machine.limit (turns_of k input s)
 unfolding run_by turns_of
-run-turns input zero s h e = rw (h, le-leb s.machine.limit s.machine.count (omega arith))
-run-turns input (suc k) s h e =
+run_turns input zero s h e = rw (h, le-leb s.machine.limit s.machine.count (omega arith))
+run_turns input (suc k) s h e =
     look _ _ (step_of input s) (run_by k input) s h (lt-leb s.machine.limit s.machine.count (omega arith))
-    ∙ rw (step_awake input s h) (by (went input s) (run-turns input k))
+    ∙ rw (step_awake input s h) (by (went input s) (run_turns input k))
   where
     r : Answered
     r = settled (turn_of (view_of input s)) s
@@ -118,12 +118,12 @@ run-turns input (suc k) s h e =
     by (stops n t some two nine kept) rest = rw (stopped r n t some, stopped r n t some)
 
 -- up to the largest count no turn answers 2 or 9
-pub turns-plain :
+pub turns_plain :
     (input : List ℕ) (k : ℕ) (s : Situation) → s.machine.count + k ≤ most_count →
     (number_of (turns_of k input s).answer ≡ 2 → ⊥) × (number_of (turns_of k input s).answer ≡ 9 → ⊥)
 unfolding turns_of
-turns-plain input zero s e = omega arith
-turns-plain input (suc k) s e = by (went input s) (turns-plain input k)
+turns_plain input zero s e = omega arith
+turns_plain input (suc k) s e = by (went input s) (turns_plain input k)
   where
     r : Answered
     r = settled (turn_of (view_of input s)) s
@@ -139,43 +139,43 @@ turns-plain input (suc k) s e = by (went input s) (turns-plain input k)
         rw (stopped r n t some) (λ z. two (sym t ∙ z), λ z. let full = nine (sym t ∙ z) in omega arith)
 
 -- what the code makes of the last turn's answer is what the definition does
-pub as-run :
+pub as_run_lem :
     (a : StepAnswer) (limit : ℕ) (s : Situation) → (number_of (step_number a) ≡ 2 → ⊥) → (number_of (step_number a) ≡ 9 → ⊥) →
     refused_at (run_number (as_run a limit)) s ≡ limited limit (refused_at (step_number a) s)
-as-run Stepped limit s two nine = refl
-as-run StepAnswer.Halted limit s two nine = refl
-as-run AlreadyHalted limit s two nine = absurd (two refl)
-as-run (StepAnswer.Refused f) limit s two nine = rw (fault_stops f)
-as-run CountFull limit s two nine = absurd (nine refl)
+as_run_lem Stepped limit s two nine = refl
+as_run_lem StepAnswer.Halted limit s two nine = refl
+as_run_lem AlreadyHalted limit s two nine = absurd (two refl)
+as_run_lem (StepAnswer.Refused f) limit s two nine = rw (fault_stops f)
+as_run_lem CountFull limit s two nine = absurd (nine refl)
 
 -- a look at a halted machine, and at one that is at its limit
-looked-halted :
+looked_halted :
     (halted full : Bool) (r : Answered) (rest : Situation → Answered) (s : Situation) → halted ≡ true →
     looked halted full r rest s ≡ refused_at (1 ∷ []) s
-looked-halted halted full r rest s h = rw h
+looked_halted halted full r rest s h = rw h
 
-looked-full :
+looked_full :
     (halted full : Bool) (r : Answered) (rest : Situation → Answered) (s : Situation) → halted ≡ false → full ≡ true →
     looked halted full r rest s ≡ refused_at (10 ∷ s.machine.limit ∷ []) s
-looked-full halted full r rest s h f = rw (h, f)
+looked_full halted full r rest s h f = rw (h, f)
 
 pub run_halted : (k : ℕ) (input : List ℕ) (s : Situation) → s.machine.halted ≡ true → run_by k input s ≡ refused_at (1 ∷ []) s
 unfolding run_by
-run_halted zero input s h = looked-halted _ _ _ _ s h
-run_halted (suc k) input s h = looked-halted _ _ _ _ s h
+run_halted zero input s h = looked_halted _ _ _ _ s h
+run_halted (suc k) input s h = looked_halted _ _ _ _ s h
 
-pub run-full :
+pub run_full :
     (k : ℕ) (input : List ℕ) (s : Situation) → s.machine.halted ≡ false → s.machine.limit ≤ s.machine.count →
     run_by k input s ≡ refused_at (10 ∷ s.machine.limit ∷ []) s
 unfolding run_by
-run-full zero input s h e = looked-full _ _ _ _ s h (le-leb s.machine.limit s.machine.count e)
-run-full (suc k) input s h e = looked-full _ _ _ _ s h (le-leb s.machine.limit s.machine.count e)
+run_full zero input s h e = looked_full _ _ _ _ s h (le-leb s.machine.limit s.machine.count e)
+run_full (suc k) input s h e = looked_full _ _ _ _ s h (le-leb s.machine.limit s.machine.count e)
 
 -- what a caller of the turns has is the step, and the run
 module _ (input : List ℕ) (m : Machine) (place : ℕ) (output : List ℕ) (written : ℕ) (h : m.halted ≡ false) where
-  pub step-turns :
+  pub step_turns :
       turns_of 1 input (situated (awake m) place output written) ≡ step_of input (situated m place output written)
-  step-turns = rw (awake_same m h) (turns_one input (situated m place output written) h)
+  step_turns = rw (awake_same m h) (turns_one input (situated m place output written) h)
 
   -- At the largest count a step is told by one turn from count 0, with room where the step has room: 9 where the count rose, else the turn's answer.
   module _ (full : m.count ≡ most_count) (scratch : List ℕ) (used : ℕ) (room : ltb used (length scratch) ≡ ltb written (length output))
@@ -215,17 +215,17 @@ module _ (input : List ℕ) (m : Machine) (place : ℕ) (output : List ℕ) (wri
         ∙ stayed (turn_of (view_of input s)) (subst (λ r. r.after.machine.count ≤ 0) came b)
         ∙ sym (step_awake input s h)
 
-  pub run-last :
+  pub run_last :
       (last : StepOutcome) (out : List ℕ) → m.count < m.limit → m.limit ≤ most_count →
       stepping last out ≡ turns_of (m.limit - m.count) input (situated (awake m) place output written) →
       refused_at (run_number (as_run last.answer m.limit)) (situated last.machine last.place out last.written)
       ≡ run_of input (situated m place output written)
-  run-last last out below most e =
+  run_last last out below most e =
       let s = situated m place output written in
       let k = m.limit - m.count in
       let turned : stepping last out ≡ turns_of k input s = rw (← awake_same m h) e in
       let number : number_of (step_number last.answer) ≡ number_of (turns_of k input s).answer = ap (λ r. number_of r.answer) turned in
-      let plain = turns-plain input k s (omega arith) in
-      as-run last.answer m.limit _ (λ z. plain.0 (sym number ∙ z)) (λ z. plain.1 (sym number ∙ z))
+      let plain = turns_plain input k s (omega arith) in
+      as_run_lem last.answer m.limit _ (λ z. plain.0 (sym number ∙ z)) (λ z. plain.1 (sym number ∙ z))
       ∙ ap (limited m.limit) turned
-      ∙ sym (run-turns input k s h (omega arith))
+      ∙ sym (run_turns input k s h (omega arith))

@@ -19,7 +19,7 @@ looked true full r rest s = refused_at (1 ∷ []) s
 looked false true r rest s = refused_at (10 ∷ s.machine.limit ∷ []) s
 looked false false r rest s = then (onward r.answer) r rest
 
--- at most so many steps; the law `fuel-never-decides` says that limit less count is always enough
+-- at most so many steps; the law `fuel_never_decides` says that limit less count is always enough
 unfoldable pub run_by : ℕ → List ℕ → Situation → Answered
 run_by zero input s =
     looked s.machine.halted (nat_le s.machine.limit s.machine.count) (step_of input s) (refused_at []) s

@@ -123,6 +123,6 @@ module _ (bytes : List ℕ) (is : is_record bytes ≡ true) where
       }
 
 -- one machine has one record
-pub one-record :
+pub one_record :
     (a b : List ℕ) → is_record a ≡ true → is_record b ≡ true → machine_of a ≡ machine_of b → a ≡ b
-one-record a b ra rb same = sym (read_written a ra) ∙ ap record_of same ∙ read_written b rb
+one_record a b ra rb same = sym (read_written a ra) ∙ ap record_of same ∙ read_written b rb

@@ -55,21 +55,21 @@ both_same Unfit w e = absurd (subst differs e tt)
 abbrev made : List ℕ → List ℕ → List ℕ → Answer
 made numbers registers memory = record { numbers = numbers; registers = registers; memory = memory }
 
-pub same-everything :
+pub same_everything :
     (ours theirs : Answer) (output expected : List ℕ) → length ours.numbers ≡ length theirs.numbers →
     length ours.registers ≡ length theirs.registers → length ours.memory ≡ length theirs.memory →
     length output ≡ length expected → compared ours theirs output expected ≡ Same →
     (ours ≡ theirs) × (output ≡ expected)
 unfolding compared
-same-everything ours theirs output expected n r m o e =
+same_everything ours theirs output expected n r m o e =
     let numbers = both_same _ _ e in
     let registers = both_same _ _ numbers.1 in
     let rest = both_same _ _ registers.1 in
     let same_numbers = parted_same Number ours.numbers theirs.numbers n numbers.0 in
-    let sameRegisters = parted_same Register ours.registers theirs.registers r registers.0 in
-    let sameMemory = parted_same Memory ours.memory theirs.memory m rest.0 in (
+    let same_registers = parted_same Register ours.registers theirs.registers r registers.0 in
+    let same_memory = parted_same Memory ours.memory theirs.memory m rest.0 in (
       ap (λ l. made l ours.registers ours.memory) same_numbers
-          ∙ ap (λ l. made theirs.numbers l ours.memory) sameRegisters
-          ∙ ap (λ l. made theirs.numbers theirs.registers l) sameMemory,
+          ∙ ap (λ l. made theirs.numbers l ours.memory) same_registers
+          ∙ ap (λ l. made theirs.numbers theirs.registers l) same_memory,
       parted_same Output output expected o rest.1,
     )

@@ -6,7 +6,7 @@ use native.Mathlib.Omega.{arith}
 use lib.ListN.{length, length-take, get_or, take, drop, drop_of_length-le}
 use lib.Seq.{get_or-take}
 use Rattle.front.specs.Line.{byte_text, spaced, then}
-use Rattle.front.proofs.SpacedLaws.{spaced-next}
+use Rattle.front.proofs.SpacedLaws.{spaced_next}
 
 module _ (bytes : List ℕ) (few at : ℕ) where
   abbrev left : List ℕ
@@ -15,7 +15,7 @@ module _ (bytes : List ℕ) (few at : ℕ) where
   pub bytes_next :
       at < few → at < length bytes → spaced byte_text (drop at (take few bytes)) ≡ then (byte_text (get_or bytes at 0)) ++ left
   bytes_next h k =
-      spaced-next byte_text (take few bytes) at (omega (arith, length-take few bytes))
+      spaced_next byte_text (take few bytes) at (omega (arith, length-take few bytes))
       ∙ ap (λ b. then (byte_text b) ++ left) (get_or-take few bytes at 0 h)
 
   -- at the end none is left

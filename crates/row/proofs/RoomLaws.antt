@@ -21,7 +21,7 @@ use Rattle.front.specs.declared.front.Front.{Front}
 use Rattle.front.specs.declared.front.Front.TheVariants.{Whole, Alone}
 use Rattle.front.specs.Front.{front_of}
 use Rattle.front.specs.Line.{byte_text, register_text, spaced, then, operands_text, words_of, line_of, line_at}
-use Rattle.front.proofs.SpacedLaws.{spaced-length}
+use Rattle.front.proofs.SpacedLaws.{spaced_length}
 
 -- a digit more behind the others, or none
 one_more : (none : Bool) (digits : List ℕ) (d k : ℕ) → length digits ≤ k → length (cond none [] (digits ++ (d ∷ []))) ≤ suc k
@@ -57,7 +57,7 @@ words_few (Whole o a false) bytes =
     omega (
       arith,
       length-append (then (codes ".DB")) (spaced byte_text said),
-      spaced-length byte_text 4 (λ b. refl) said,
+      spaced_length byte_text 4 (λ b. refl) said,
       length-take (length_of (form_of o)) bytes,
       (length_within (form_of o)).1,
     )
@@ -75,6 +75,6 @@ line_short address bytes =
     )
 
 -- so it is on its Line whole
-pub line-whole :
+pub line_whole :
     (address : ℕ) (bytes : List ℕ) {line : Line} → line ≡ lined (line_at address bytes) → Holds (line_at address bytes) line
-line-whole address bytes = line_holds (line_at address bytes) (line_short address bytes)
+line_whole address bytes = line_holds (line_at address bytes) (line_short address bytes)

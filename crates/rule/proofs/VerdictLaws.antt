@@ -71,10 +71,10 @@ module _ (a : RunAnswer) (count pc : ℕ) (h : InRange a) (hc : count < 65536) (
         named_few (codes "pc") 2 pc (omega arith),
       )
 
-  pub verdict-whole :
+  pub verdict_whole :
       let l = lined (verdict_of (run_number a) count pc) in
       take l.length l.bytes ≡ verdict_of (run_number a) count pc
-  verdict-whole = holds (verdict_of (run_number a) count pc) verdict_fits
+  verdict_whole = holds (verdict_of (run_number a) count pc) verdict_fits
 
 -- a length is what a program holds, of twenty digits at most
 module _ (size start : ℕ) (hl : size < 18446744073709551616) (hs : start < 256) where
@@ -89,7 +89,7 @@ module _ (size start : ℕ) (hl : size < 18446744073709551616) (hs : start < 256
         named_few (codes "start") 2 start (omega arith),
       )
 
-  pub too-long-whole :
+  pub too_long_whole :
       let l = lined (too_long size start) in
       take l.length l.bytes ≡ too_long size start
-  too-long-whole = holds (too_long size start) too_long_fits
+  too_long_whole = holds (too_long size start) too_long_fits

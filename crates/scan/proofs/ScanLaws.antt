@@ -20,10 +20,10 @@ pub first_end : (c : Class) (text : List ℕ) (i : ℕ) → length text ≤ i �
 unfolding first
 first_end c text i h = rw (drop_of_length-le text h) (omega arith)
 
-pub first-here :
+pub first_here :
     (c : Class) (text : List ℕ) (i : ℕ) → i < length text → passes c (get_or text i 0) ≡ true → i + first c (drop i text) ≡ i
 unfolding first
-first-here c text i h e = rw (drop-cons text i 0 h, e) (omega arith)
+first_here c text i h e = rw (drop-cons text i 0 h, e) (omega arith)
 
 pub first_on :
     (c : Class) (text : List ℕ) (i : ℕ) → i < length text → passes c (get_or text i 0) ≡ false →
@@ -32,12 +32,12 @@ unfolding first
 first_on c text i h e = rw (add-one i, drop-cons text i 0 h, e) (omega arith)
 
 -- from the back, with n bytes left
-back-here :
+back_here :
     (c : Class) (text : List ℕ) (n : ℕ) → n < length text → passes c (get_or text n 0) ≡ true → last c (take (suc n) text) ≡ suc n
 unfolding last
-back-here c [] n h e = absurd (not-suc-le-zero h)
-back-here c (b ∷ bs) zero h e = rw e
-back-here c (b ∷ bs) (suc n) h e = rw (back-here c bs n (omega arith) e)
+back_here c [] n h e = absurd (not-suc-le-zero h)
+back_here c (b ∷ bs) zero h e = rw e
+back_here c (b ∷ bs) (suc n) h e = rw (back_here c bs n (omega arith) e)
 
 back_on :
     (c : Class) (text : List ℕ) (n : ℕ) → n < length text → passes c (get_or text n 0) ≡ false →
@@ -47,10 +47,10 @@ back_on c [] n h e = absurd (not-suc-le-zero h)
 back_on c (b ∷ bs) zero h e = rw e
 back_on c (b ∷ bs) (suc n) h e = rw (back_on c bs n (omega arith) e)
 
-pub last-here :
+pub last_here :
     (c : Class) (text : List ℕ) (n : ℕ) → 0 < n → n ≤ length text → passes c (get_or text (n - 1) 0) ≡ true → last c (take n text) ≡ n
-last-here c text zero some h e = absurd (not-suc-le-zero some)
-last-here c text (suc n) some h e = let less : suc n - 1 ≡ n = omega arith in back-here c text n h (rw less at e)
+last_here c text zero some h e = absurd (not-suc-le-zero some)
+last_here c text (suc n) some h e = let less : suc n - 1 ≡ n = omega arith in back_here c text n h (rw less at e)
 
 pub last_on :
     (c : Class) (text : List ℕ) (n : ℕ) → 0 < n → n ≤ length text → passes c (get_or text (n - 1) 0) ≡ false →
@@ -82,18 +82,18 @@ last_within c (b ∷ bs) = at (last c bs) refl (passes c b) (last_within c bs)
 abbrev Spread : ℕ → ℕ → ℕ → Type 0
 Spread f n k = ((k ≡ 0) × (n ≡ 0)) ⊎ (((k ≡ 1) × (n ≡ f + 1)) ⊎ ((2 ≤ k) × (f + 1 < n)))
 
-spread-on :
+spread_on :
     (here : Bool) (f n k : ℕ) → Spread f n k → Spread (cond here 0 (suc f)) (behind here n) (cond here 1 0 + k)
-spread-on true f zero k s =
+spread_on true f zero k s =
     ⊎_elim (λ e. inr (inl (omega (arith, e.0), omega arith))) (⊎_elim (λ e. absurd (omega (arith, e.1))) (λ e. absurd (omega (arith, e.1)))) s
-spread-on true f (suc n) k s =
+spread_on true f (suc n) k s =
     ⊎_elim
     (λ e. absurd (omega (arith, e.1)))
     (⊎_elim (λ e. inr (inr (omega (arith, e.0), omega arith))) (λ e. inr (inr (omega (arith, e.0), omega arith))))
     s
-spread-on false f zero k s =
+spread_on false f zero k s =
     ⊎_elim (λ e. inl (omega (arith, e.0), refl)) (⊎_elim (λ e. absurd (omega (arith, e.1))) (λ e. absurd (omega (arith, e.1)))) s
-spread-on false f (suc n) k s =
+spread_on false f (suc n) k s =
     ⊎_elim
     (λ e. absurd (omega (arith, e.1)))
     (⊎_elim
@@ -104,7 +104,7 @@ spread-on false f (suc n) k s =
 spread : (c : Class) (text : List ℕ) → Spread (first c text) (last c text) (count c text)
 unfolding first last count
 spread c [] = inl (refl, refl)
-spread c (b ∷ bs) = spread-on (passes c b) (first c bs) (last c bs) (count c bs) (spread c bs)
+spread c (b ∷ bs) = spread_on (passes c b) (first c bs) (last c bs) (count c bs) (spread c bs)
 
 -- there are two just where the last stands behind the first
 pub two_apart : (c : Class) (text : List ℕ) → leb 2 (count c text) ≡ ltb (first c text) (last c text - 1)

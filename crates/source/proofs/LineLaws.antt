@@ -33,10 +33,10 @@ pub span_length : (k f : ℕ) (l : List ℕ) → f + k ≤ length l → length (
 span_length k f l h = length-take-le k (drop f l) (omega (arith, length-drop f l))
 
 -- two stretches of one text that begin at one place and hold the same bytes are one: what `line` promises leaves no choice
-pub span-one :
+pub span_one :
     (raw : List ℕ) (r s : Span) → spanned r raw ≡ spanned s raw → r.from ≡ s.from → r.from ≤ r.to → s.from ≤ s.to →
     r.to ≤ length raw → s.to ≤ length raw → r ≡ s
-span-one raw r s same from r-in s-in r-end s-end =
+span_one raw r s same from r-in s-in r-end s-end =
     let r-size = span_length (r.to - r.from) r.from raw (omega arith) in
     let s-size = span_length (s.to - s.from) s.from raw (omega arith) in
     let to : r.to ≡ s.to = omega (arith, r-size, s-size, ap length same, from) in
@@ -69,24 +69,24 @@ begins_first c (b ∷ bs) e k = either (passes c b) refl (begins_first c bs e k)
     either true p there = begins c b bs e k p
     either false p there = there
 
-pub begins-there :
+pub begins_there :
     (c : Class) (l : List ℕ) (i e k : ℕ) → i ≡ first c l → first c (take e (take k (drop i l))) ≡ 0
-begins-there c l i e k at = ap (λ i. first c (take e (take k (drop i l)))) at ∙ begins_first c l e k
+begins_there c l i e k at = ap (λ i. first c (take e (take k (drop i l)))) at ∙ begins_first c l e k
 
 -- the first line of a source goes to its first LF, and the others begin behind that
-pub first-line :
+pub first_line :
     (s : List ℕ) → 0 < length s →
     lines_of s ≡ take (first (Is 0x0a) s) s ∷ lines_of (drop (first (Is 0x0a) s + 1) s)
 unfolding lines_of first passes
-first-line [] h = absurd (not-suc-le-zero h)
-first-line (b ∷ []) h = alone (eqb b 0x0a)
+first_line [] h = absurd (not-suc-le-zero h)
+first_line (b ∷ []) h = alone (eqb b 0x0a)
   where
     alone :
         (ends : Bool) →
         cond ends ([] ∷ []) ((b ∷ []) ∷ []) ≡ take (cond ends 0 1) (b ∷ []) ∷ lines_of (drop (cond ends 0 1 + 1) (b ∷ []))
     alone true = refl
     alone false = refl
-first-line (b ∷ c ∷ cs) h = either (eqb b 0x0a) (first-line (c ∷ cs) (omega arith))
+first_line (b ∷ c ∷ cs) h = either (eqb b 0x0a) (first_line (c ∷ cs) (omega arith))
   where
     k : ℕ
     k = first (Is 0x0a) (c ∷ cs)

@@ -16,11 +16,11 @@ use Rattle.names.specs.Names.{same_text}
 use Rattle.source.specs.Words.{begun, words_in, words, starts}
 
 -- at place i of a line
-pub words-on :
+pub words_on :
     (inside : Bool) (line : List ℕ) (i : ℕ) → i < length line →
     words_in inside (drop i line) ≡ begun inside (get_or line i 0) + words_in (not (blank (get_or line i 0))) (drop (i + 1) line)
 unfolding words_in
-words-on inside line i h = rw (add-one i, drop-cons line i 0 h)
+words_on inside line i h = rw (add-one i, drop-cons line i 0 h)
 
 -- whether a word begins at a byte
 module _ (inside : Bool) (b : ℕ) where

@@ -67,10 +67,10 @@ module _ (rule : List ℕ) (h : length rule ≤ 256) where
   last_short = counts_short (plain_in (found rule)) (length (found rule)) (plain_few (found rule)) found_few
 
   -- the last line stands on a Line whole
-  pub last-holds :
+  pub last_holds :
       {line : Line} → line ≡ lined (counts_of (plain_in (found rule)) (length (found rule))) →
       Holds (counts_of (plain_in (found rule)) (length (found rule))) line
-  last-holds = line_holds (counts_of (plain_in (found rule)) (length (found rule))) (omega (arith, last_short))
+  last_holds = line_holds (counts_of (plain_in (found rule)) (length (found rule))) (omega (arith, last_short))
 
   -- a buffer of 8,192 bytes or more is never answered by 14
   pub check_fits : length (checked (found rule)) ≤ 8192

@@ -43,9 +43,9 @@ module _ (input : List ℕ) (m : Machine) (place : ℕ) (output : List ℕ) (wri
     pub step_left : (r : StepOutcome) → stepping r out ≡ step_of input (situated m place output written) → StepLeft m (stepping r out)
     step_left r e = rw e (one_step input (situated m place output written) sized range)
 
-    pub run-left :
+    pub run_left :
         (r : RunOutcome) → running r out ≡ run_of input (situated m place output written) →
         RunLeft input (situated m place output written) (running r out).after
-    run-left r e =
+    run_left r e =
         let s = situated m place output written in
         subst (λ x. RunLeft input s x.after) (sym e) (left input s sized range)

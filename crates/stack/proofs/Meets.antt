@@ -77,9 +77,9 @@ asked c (took b) own = empty c
 asked c (stored a) own = own
 asked c other own = own
 
-asked-own :
+asked_own :
     (x y : ℕ) (v : View) (m n : Machine) (o : Op) → before_of o x y v ≡ asked v.core (event_by o x y m n) (before_of o x y v)
-asked-own x y v m n = agree (λ o. before_of o x y v) (λ o. asked v.core (event_by o x y m n) (before_of o x y v)) refl
+asked_own x y v m n = agree (λ o. before_of o x y v) (λ o. asked v.core (event_by o x y m n) (before_of o x y v)) refl
 
 -- an instruction that completed did not meet its fault
 passed : (test : Bool) (f : List ℕ) (own e : Effect) → fate_by (fault test f) own ≡ done e → test ≡ false
@@ -113,30 +113,30 @@ Stacked m n ev = Allowed m.sp ev × MetBy m n ev
 
 module _ (input : List ℕ) (s : Situation) (sized : Sized s.machine) where
   -- by what the opcode stands for
-  done-stacked :
+  done_stacked :
       (l : Lookup) (one two three : ℕ) (e : Effect) → fate_at (decoding_of l one two three) (view_of input s) ≡ done e →
       Stacked s.machine (applied e s).machine (event_if true (decoding_of l one two three) s.machine (applied e s).machine)
   unfolding fate_of
-  done-stacked (Found o) one two three e h =
+  done_stacked (Found o) one two three e h =
       let x = first_of (operands_of (form_of o) two three) in
       let y = second_of (operands_of (form_of o) two three) in
       let own = effect_of o x y (view_of input s) in
       let before = before_of o x y (view_of input s) in
       let after = (applied own s).machine in
-      let free = allowed (view_of input s).core (event_by o x y s.machine after) before own e (rw (← asked-own x y (view_of input s) s.machine after o) h) in
+      let free = allowed (view_of input s).core (event_by o x y s.machine after) before own e (rw (← asked_own x y (view_of input s) s.machine after o) h) in
       rw (← done_effect before own e h) (free, own_met input s two three sized o)
-  done-stacked Unknown one two three e h = let z : ◌≡◌ {A = ℕ} 0 1 = cc in absurd (omega arith)
+  done_stacked Unknown one two three e h = let z : ◌≡◌ {A = ℕ} 0 1 = cc in absurd (omega arith)
 
-  halt-other :
+  halt_other :
       (l : Lookup) (one two three : ℕ) (n : Machine) → fate_at (decoding_of l one two three) (view_of input s) ≡ halt →
       event_if true (decoding_of l one two three) s.machine n ≡ other
   unfolding fate_of
-  halt-other (Found o) one two three n h =
+  halt_other (Found o) one two three n h =
       let x = first_of (operands_of (form_of o) two three) in
       let y = second_of (operands_of (form_of o) two three) in
       spared_own x y (view_of input s) s.machine n o
       ∙ halts_spared (before_of o x y (view_of input s)) (effect_of o x y (view_of input s)) _ h
-  halt-other Unknown one two three n h = refl
+  halt_other Unknown one two three n h = refl
 
   pub step_stacked : Stacked s.machine (step_of input s).after.machine (event_of s.machine (step_of input s))
   unfolding turn_of decoded_of
@@ -147,5 +147,5 @@ module _ (input : List ℕ) (s : Situation) (sized : Sized s.machine) where
       let three = get_or s.machine.memory ((pc + 2) % 256) 0 in
       by_outcome (λ r. Stacked s.machine r.after.machine (event_of s.machine r)) input s
       (λ number above. rw (lt-leb (number_of number) 1 above) (tt, apart))
-      (λ t. rw (halt-other (decoded one) one two three (halted_at s).machine t) (tt, apart))
-      (λ e t. done-stacked (decoded one) one two three e t)
+      (λ t. rw (halt_other (decoded one) one two three (halted_at s).machine t) (tt, apart))
+      (λ e t. done_stacked (decoded one) one two three e t)

@@ -101,9 +101,9 @@ pub transfer_number_injective : (a b : TransferAnswer) → transfer_number a ≡
 transfer_number_injective = undone transfer_number transfer_answer transfer_answer_number
 
 -- two outcomes, with the bytes that they leave in the buffer, that the promise of step, of run, of load or of transfer allows are one
-pub step-one :
+pub step_one :
     (r q : StepOutcome) (out over : List ℕ) → stepping r out ≡ stepping q over → (r ≡ q) × (out ≡ over)
-step-one r q out over e =
+step_one r q out over e =
     let answer : r.answer ≡ q.answer = step_number_injective r.answer q.answer (ap (λ x. x.answer) e) in (
       λ i.
           record {
@@ -115,9 +115,9 @@ step-one r q out over e =
       ap (λ x. x.after.output) e,
     )
 
-pub run-one :
+pub run_one :
     (r q : RunOutcome) (out over : List ℕ) → running r out ≡ running q over → (r ≡ q) × (out ≡ over)
-run-one r q out over e =
+run_one r q out over e =
     let answer : r.answer ≡ q.answer = run_number_injective r.answer q.answer (ap (λ x. x.answer) e) in (
       λ i.
           record {

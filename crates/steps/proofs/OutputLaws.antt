@@ -43,13 +43,13 @@ elsewhere : (n i : ℕ) → (i < n) ⊎ (n + 1 ≤ i) → i ≢ n
 elsewhere n i (inl l) e = omega arith
 elsewhere n i (inr g) e = omega arith
 
-by-write :
+by_write :
     (w : Write) (n : ℕ) (out : List ℕ) → (prints w ≡ true → n < length out) →
     Printed n out (written_after w n) (output_after w n out)
-by-write Nothing n out room = same n out
-by-write (Register r v) n out room = same n out
-by-write (Memory a v) n out room = same n out
-by-write (Output v) n out room =
+by_write Nothing n out room = same n out
+by_write (Register r v) n out room = same n out
+by_write (Memory a v) n out room = same n out
+by_write (Output v) n out room =
     record {
       more = omega arith;
       inside = λ h. omega (arith, room refl, length-set out n v);
@@ -62,7 +62,7 @@ step_printed input s =
     by_outcome (λ r. PrintedTo s r.after) input s
     (λ number above. same s.written s.output)
     (λ t. same s.written s.output)
-    (λ e t. by-write e.write s.written s.output (λ p. ltb-true _ _ (prints_room (view_of input s) e t p)))
+    (λ e t. by_write e.write s.written s.output (λ p. ltb-true _ _ (prints_room (view_of input s) e t p)))
 
 -- whatever the run ended for
 pub run_printed : (input : List ℕ) (s : Situation) → PrintedTo s (run_of input s).after

@@ -27,11 +27,11 @@ refused_same input s =
     (λ e t h. absurd (omega arith))
 
 -- a byte that is none of the forty is never run as something else: the step gives it back with its address, and changes nothing
-pub unknown-refused :
+pub unknown_refused :
     (input : List ℕ) (s : Situation) → s.machine.halted ≡ false → 40 ≤ get_or s.machine.memory s.machine.pc 0 →
     step_of input s ≡ refused_at (3 ∷ get_or s.machine.memory s.machine.pc 0 ∷ s.machine.pc ∷ []) s
 unfolding step_of turn_of decoded_of
-unknown-refused input s awake h = rw (awake, ← past ops (get_or s.machine.memory s.machine.pc 0) h)
+unknown_refused input s awake h = rw (awake, ← past ops (get_or s.machine.memory s.machine.pc 0) h)
 
 -- which flags a step moves
 pub step_moved : (input : List ℕ) (s : Situation) → Moved s.machine.flags (step_of input s).after.machine.flags

@@ -13,7 +13,7 @@ use Rattle.nanocore.specs.Machine.{most_count}
 use Rattle.nanocore.specs.Run.{onward, then, run_by, run_of}
 use Rattle.nanocore.specs.Step.{Situation, Answered, view_of, applied, settled, step_of}
 use Rattle.steps.specs.Trace.{after_steps, Ended, Ran}
-use Rattle.nanocore.proofs.RunLaws.{Kept, Went, goes, stops, went, look, stopped, step_awake, run_halted, run-full}
+use Rattle.nanocore.proofs.RunLaws.{Kept, Went, goes, stops, went, look, stopped, step_awake, run_halted, run_full}
 
 -- How a machine stands before a look: halted, at its limit, or with a step to take, which goes on or stops.
 data Stands (input : List ℕ) (s : Situation) : Type 0 where
@@ -101,56 +101,56 @@ abbrev Later : (ℕ → Situation → Type 0) → ℕ → Type 0
 Later P k = (j : ℕ) → suc j ≡ k → (t : Situation) → t.machine.limit - t.machine.count ≤ j → P j t
 
 -- with fuel enough, every run is stepping until it ends
-ran-look :
+ran_look :
     (input : List ℕ) (k : ℕ) (s : Situation) → s.machine.limit - s.machine.count ≤ k →
     Later (λ j t. Ran input t (run_by j input t)) k → Stands input s → Ran input s (run_by k input s)
-ran-look input k s f rest (done h) =
+ran_look input k s f rest (done h) =
     rw (run_halted k input s h) (here input s _ (Ended.halted h) record { count = refl; limit = refl })
-ran-look input k s f rest (full h b) =
-    rw (run-full k input s h b) (here input s _ (Ended.limit h b) record { count = refl; limit = refl })
-ran-look input zero s f rest (more h b t e th tc tl) = absurd (omega arith)
-ran-look input (suc k) s f rest (more h b t e th tc tl) =
+ran_look input k s f rest (full h b) =
+    rw (run_full k input s h b) (here input s _ (Ended.limit h b) record { count = refl; limit = refl })
+ran_look input zero s f rest (more h b t e th tc tl) = absurd (omega arith)
+ran_look input (suc k) s f rest (more h b t e th tc tl) =
     rw (run_more input k s h b t e) (onto input s t _ h b e tc tl (rest k refl t (omega arith)))
-ran-look input zero s f rest (last h b o kept) = absurd (omega arith)
-ran-look input (suc k) s f rest (last h b o kept) =
+ran_look input zero s f rest (last h b o kept) = absurd (omega arith)
+ran_look input (suc k) s f rest (last h b o kept) =
     rw (run_stops input k s h b o) (here input s _ (Ended.step h b o) kept)
 
 -- what follows at a fuel from all that is known with one less holds at every fuel that is enough
-by-fuel :
+by_fuel :
     (P : ℕ → Situation → Type 0) →
     ((k : ℕ) (s : Situation) → s.machine.limit - s.machine.count ≤ k → Later P k → P k s) → (k : ℕ) (s : Situation) →
     s.machine.limit - s.machine.count ≤ k → P k s
-by-fuel P look zero s f = look 0 s f (λ j z. absurd (omega arith))
-by-fuel P look (suc k) s f =
-    look (suc k) s f (λ j z t g. rw (suc_inj z) (by-fuel P look k t (rw (← suc_inj z) g)))
+by_fuel P look zero s f = look 0 s f (λ j z. absurd (omega arith))
+by_fuel P look (suc k) s f =
+    look (suc k) s f (λ j z t g. rw (suc_inj z) (by_fuel P look k t (rw (← suc_inj z) g)))
 
 pub ran : (input : List ℕ) (s : Situation) → Ran input s (run_of input s)
 ran input s =
-    by-fuel (λ k t. Ran input t (run_by k input t)) (λ k t f rest. ran-look input k t f rest (stands input t))
+    by_fuel (λ k t. Ran input t (run_by k input t)) (λ k t f rest. ran_look input k t f rest (stands input t))
     (s.machine.limit - s.machine.count) s (omega arith)
 
 -- two fuels that are enough give one run
 abbrev SameRun : List ℕ → ℕ → Situation → Type 0
 SameRun input k s = (l : ℕ) → s.machine.limit - s.machine.count ≤ l → run_by k input s ≡ run_by l input s
 
-same-look :
+same_look :
     (input : List ℕ) (k : ℕ) (s : Situation) → s.machine.limit - s.machine.count ≤ k → Later (SameRun input) k →
     Stands input s → SameRun input k s
-same-look input k s f rest (done h) l g = run_halted k input s h ∙ sym (run_halted l input s h)
-same-look input k s f rest (full h b) l g = run-full k input s h b ∙ sym (run-full l input s h b)
-same-look input zero s f rest (more h b t e th tc tl) l g = absurd (omega arith)
-same-look input (suc k) s f rest (more h b t e th tc tl) zero g = absurd (omega arith)
-same-look input (suc k) s f rest (more h b t e th tc tl) (suc l) g =
+same_look input k s f rest (done h) l g = run_halted k input s h ∙ sym (run_halted l input s h)
+same_look input k s f rest (full h b) l g = run_full k input s h b ∙ sym (run_full l input s h b)
+same_look input zero s f rest (more h b t e th tc tl) l g = absurd (omega arith)
+same_look input (suc k) s f rest (more h b t e th tc tl) zero g = absurd (omega arith)
+same_look input (suc k) s f rest (more h b t e th tc tl) (suc l) g =
     run_more input k s h b t e ∙ rest k refl t (omega arith) l (omega arith) ∙ sym (run_more input l s h b t e)
-same-look input zero s f rest (last h b o kept) l g = absurd (omega arith)
-same-look input (suc k) s f rest (last h b o kept) zero g = absurd (omega arith)
-same-look input (suc k) s f rest (last h b o kept) (suc l) g =
+same_look input zero s f rest (last h b o kept) l g = absurd (omega arith)
+same_look input (suc k) s f rest (last h b o kept) zero g = absurd (omega arith)
+same_look input (suc k) s f rest (last h b o kept) (suc l) g =
     run_stops input k s h b o ∙ sym (run_stops input l s h b o)
 
-pub fuel-never-decides :
+pub fuel_never_decides :
     (input : List ℕ) (k : ℕ) (s : Situation) → s.machine.limit - s.machine.count ≤ k → run_by k input s ≡ run_of input s
-fuel-never-decides input k s f =
-    by-fuel (SameRun input) (λ k t f rest. same-look input k t f rest (stands input t)) k s f
+fuel_never_decides input k s f =
+    by_fuel (SameRun input) (λ k t f rest. same_look input k t f rest (stands input t)) k s f
     (s.machine.limit - s.machine.count) (omega arith)
 
 -- "A run never gives 0, 2 or 9"

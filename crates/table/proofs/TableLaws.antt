@@ -26,11 +26,11 @@ module _ (s : List ℕ) (a b n i : ℕ) where
   unfolding alike
   alike_apart h ne = rw (less n i h, ne_eqb (get_or s (a + i) 0) (get_or s (b + i) 0) ne)
 
-  pub alike-on :
+  pub alike_on :
       i < n → get_or s (a + i) 0 ≡ get_or s (b + i) 0 →
       alike s (a + i) (b + i) (n - i) ≡ alike s (a + (i + 1)) (b + (i + 1)) (n - (i + 1))
   unfolding alike
-  alike-on h e =
+  alike_on h e =
       let first : a + i + 1 ≡ a + (i + 1) = omega arith in
       let second : b + i + 1 ≡ b + (i + 1) = omega arith in
       rw (less n i h, eq-eqb (get_or s (a + i) 0) (get_or s (b + i) 0) e, first, second)
@@ -45,8 +45,8 @@ module _ (s places lengths : List ℕ) (place size n i : ℕ) where
   unfolding found_from
   found_here h e = rw (less n i h, e)
 
-  pub found-on :
+  pub found_on :
       i < n → same_name s places lengths i place size ≡ false →
       found_from s places lengths place size i (n - i) ≡ found_from s places lengths place size (i + 1) (n - (i + 1))
   unfolding found_from
-  found-on h e = rw (less n i h, e)
+  found_on h e = rw (less n i h, e)

@@ -20,13 +20,13 @@ digits_front : (k n : ℕ) (digits : List ℕ) → digits_before k n digits ≡ 
 unfolding digits_before digits_of
 digits_front zero n digits = refl
 digits_front (suc k) n digits =
-    by-rest (eqb n 0) (digits_of k (n / 10)) (digits_front k (n / 10) (last_digit n ∷ digits))
+    by_rest (eqb n 0) (digits_of k (n / 10)) (digits_front k (n / 10) (last_digit n ∷ digits))
   where
-    by-rest :
+    by_rest :
         (b : Bool) (front : List ℕ) {rest : List ℕ} → rest ≡ front ++ (last_digit n ∷ digits) →
         cond b digits rest ≡ cond b [] (front ++ (last_digit n ∷ [])) ++ digits
-    by-rest true front e = refl
-    by-rest false front e = e ∙ sym (append_assoc front (last_digit n ∷ []) digits)
+    by_rest true front e = refl
+    by_rest false front e = e ∙ sym (append_assoc front (last_digit n ∷ []) digits)
 
 pub decimal_before : (n : ℕ) → decimal n ≡ digits_before 19 (n / 10) (last_digit n ∷ [])
 unfolding decimal
@@ -55,30 +55,30 @@ pub digits_more :
 unfolding digits_before
 digits_more k n digits more = rw (ne_eqb _ _ more)
 
-pub digits-turn :
+pub digits_turn :
     (l : List ℕ) (at n : ℕ) → 0 < at → at ≤ length l → n ≢ 0 →
     digits_before (at - 1) (n / 10) (drop (at - 1) (set l (at - 1) (48 + n % 10))) ≡ digits_before at n (drop at l)
-digits-turn l zero n some within more = absurd (omega arith)
-digits-turn l (suc a) n some within more =
+digits_turn l zero n some within more = absurd (omega arith)
+digits_turn l (suc a) n some within more =
     let less : suc a - 1 ≡ a = omega arith in
     rw (less)
     (ap (digits_before a (n / 10)) (written_before l a (48 + n % 10) within) ∙ sym (digits_more a n (drop (suc a) l) more))
 
 -- a number below ten to the k puts at most k digits before those behind it
-before-few :
+before_few :
     (m k n : ℕ) (digits : List ℕ) → n < 10 ^ k → length (digits_before m n digits) ≤ k + length digits
 unfolding digits_before
-before-few zero k n digits h = omega arith
-before-few (suc m) k zero digits h = omega arith
-before-few (suc m) zero (suc n) digits h = absurd (omega (arith, pow-zero 10))
-before-few (suc m) (suc k) (suc n) digits h =
+before_few zero k n digits h = omega arith
+before_few (suc m) k zero digits h = omega arith
+before_few (suc m) zero (suc n) digits h = absurd (omega (arith, pow-zero 10))
+before_few (suc m) (suc k) (suc n) digits h =
     let less : suc n / 10 < 10 ^ k = omega (arith, pow-suc 10 k) in
-    let rest = before-few m k (suc n / 10) ((48 + suc n % 10) ∷ digits) less in
+    let rest = before_few m k (suc n / 10) ((48 + suc n % 10) ∷ digits) less in
     omega (arith, ap length (digits_more m (suc n) digits (λ e. omega arith)))
 
 -- the last digit always stands, so a number below ten to the k + 1 has at most that many
 pub few_digits : (k n : ℕ) → n < 10 ^ suc k → length (decimal n) ≤ suc k
 few_digits k n h =
     let less : n / 10 < 10 ^ k = omega (arith, pow-suc 10 k) in
-    let rest = before-few 19 k (n / 10) (last_digit n ∷ []) less in
+    let rest = before_few 19 k (n / 10) (last_digit n ∷ []) less in
     omega (arith, ap length (decimal_before n))

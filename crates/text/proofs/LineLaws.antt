@@ -18,11 +18,11 @@ made bytes length = record { bytes = bytes; length = length }
 put_room : (bytes : List ℕ) (n b : ℕ) → n < 64 → put (made bytes n) b ≡ made (set bytes n b) (n + 1)
 put_room bytes n b room = rw (lt-ltb _ _ room)
 
-pub appended-byte :
+pub appended_byte :
     (bytes text : List ℕ) (n i : ℕ) → i < length text → n < 64 →
     appended (made bytes n) (drop i text) ≡ appended (made (set bytes n (get_or text i 0)) (n + 1)) (drop (i + 1) text)
 unfolding appended
-appended-byte bytes text n i h room =
+appended_byte bytes text n i h room =
     rw (add-one i, drop-cons text i 0 h)
     (ap (λ l. appended l (drop (suc i) text)) (put_room bytes n (get_or text i 0) room))
 
@@ -53,31 +53,31 @@ taken_more :
 taken_more bytes n b h = rw (add-one, take-suc-set bytes n b h)
 
 -- as long as what was there and what came
-pub appended-length :
+pub appended_length :
     (bytes text : List ℕ) (n : ℕ) → n + length text ≤ 64 → (appended (made bytes n) text).length ≡ n + length text
 unfolding appended
-appended-length bytes [] n room = omega arith
-appended-length bytes (b ∷ bs) n room =
+appended_length bytes [] n room = omega arith
+appended_length bytes (b ∷ bs) n room =
     ap (λ l. l.length) (one_more bytes bs n b (omega arith)) ∙
-    (appended-length (set bytes n b) bs (n + 1) (omega arith) ∙ omega arith)
+    (appended_length (set bytes n b) bs (n + 1) (omega arith) ∙ omega arith)
 
 -- what was there, and what came behind it
-pub appended-bytes :
+pub appended_bytes :
     (bytes text : List ℕ) (n : ℕ) → n + length text ≤ 64 → length bytes ≡ 64 →
     take (n + length text) (appended (made bytes n) text).bytes ≡ take n bytes ++ text
 unfolding appended
-appended-bytes bytes [] n room whole = rw (add-zero n, append-nil (take n bytes))
-appended-bytes bytes (b ∷ bs) n room whole =
+appended_bytes bytes [] n room whole = rw (add-zero n, append-nil (take n bytes))
+appended_bytes bytes (b ∷ bs) n room whole =
     let next : n + suc (length bs) ≡ n + 1 + length bs = omega arith in
     rw (next, one_more bytes bs n b (omega arith))
-    (appended-bytes (set bytes n b) bs (n + 1) (omega arith) (length-set bytes n b ∙ whole) ∙
+    (appended_bytes (set bytes n b) bs (n + 1) (omega arith) (length-set bytes n b ∙ whole) ∙
     rw (taken_more bytes n b (omega arith)) (append_assoc (take n bytes) (b ∷ []) bs))
 
 -- a text that has room is on its line whole
 pub holds : (text : List ℕ) → length text ≤ 64 → take (lined text).length (lined text).bytes ≡ text
 holds text room =
-    rw (appended-length (replicate 64 0) text 0 (omega arith))
-    (appended-bytes (replicate 64 0) text 0 (omega arith) refl)
+    rw (appended_length (replicate 64 0) text 0 (omega arith))
+    (appended_bytes (replicate 64 0) text 0 (omega arith) refl)
 
 -- a text stands on a line whole
 pub record Holds (text : List ℕ) (line : Line) : Type 0 where
@@ -88,7 +88,7 @@ pub record Holds (text : List ℕ) (line : Line) : Type 0 where
 pub line_holds : (text : List ℕ) {line : Line} → length text ≤ 64 → line ≡ lined text → Holds text line
 line_holds text {line} room e =
     let whole : take line.length line.bytes ≡ text = rw e (holds text room) in
-    let size : line.length ≡ length text = rw e (omega (arith, appended-length (replicate 64 0) text 0 (omega arith))) in
+    let size : line.length ≡ length text = rw e (omega (arith, appended_length (replicate 64 0) text 0 (omega arith))) in
     record {
       whole = whole;
       size = size;

@@ -13,11 +13,11 @@ use Rattle.text.specs.declared.number.Numeral.TheVariants.{Number, NoNumber}
 use Rattle.text.specs.Decimal.{value_from, numeral}
 
 module _ (text : List ℕ) (v i : ℕ) (h : i < length text) where
-  pub value-digit :
+  pub value_digit :
       48 ≤ get_or text i 0 → get_or text i 0 ≤ 57 → v * 10 + (get_or text i 0 - 48) ≤ 65535 →
       value_from v (drop i text) ≡ value_from (v * 10 + (get_or text i 0 - 48)) (drop (i + 1) text)
   unfolding value_from
-  value-digit low high few = rw (add-one i, drop-cons text i 0 h, le-leb _ _ low, le-leb _ _ high, le-leb _ _ few)
+  value_digit low high few = rw (add-one i, drop-cons text i 0 h, le-leb _ _ low, le-leb _ _ high, le-leb _ _ few)
 
   pub value_low : get_or text i 0 < 48 → value_from v (drop i text) ≡ NoNumber
   unfolding value_from
@@ -29,11 +29,11 @@ module _ (text : List ℕ) (v i : ℕ) (h : i < length text) where
       let low : 48 ≤ get_or text i 0 = omega arith in
       rw (drop-cons text i 0 h, le-leb _ _ low, lt-leb _ _ high)
 
-  pub value-much :
+  pub value_much :
       48 ≤ get_or text i 0 → get_or text i 0 ≤ 57 → 65535 < v * 10 + (get_or text i 0 - 48) →
       value_from v (drop i text) ≡ NoNumber
   unfolding value_from
-  value-much low high many = rw (drop-cons text i 0 h, le-leb _ _ low, le-leb _ _ high, lt-leb _ _ many)
+  value_much low high many = rw (drop-cons text i 0 h, le-leb _ _ low, le-leb _ _ high, lt-leb _ _ many)
 
 pub numeral_none : (text : List ℕ) → length text ≡ 0 → numeral text ≡ NoNumber
 unfolding numeral

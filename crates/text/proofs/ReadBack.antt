@@ -26,24 +26,24 @@ leads c [] other = refl
 leads c (d ∷ digits) other = rw (ne_eqb _ _ other)
 
 -- where nothing is left, what stands already leads
-before-read :
+before_read :
     (k n : ℕ) (digits : List ℕ) → n < 10 ^ k → n ≤ 65535 → (n ≡ 0 → numeral digits ≡ value_from 0 digits) →
     numeral (digits_before k n digits) ≡ value_from n digits
-before-read zero zero digits few small led = ap numeral (digits_none 0 digits) ∙ led refl
-before-read zero (suc n) digits few small led = absurd (omega (arith, pow-zero 10))
-before-read (suc k) zero digits few small led = ap numeral (digits_none (suc k) digits) ∙ led refl
-before-read (suc k) (suc n) digits few small led =
+before_read zero zero digits few small led = ap numeral (digits_none 0 digits) ∙ led refl
+before_read zero (suc n) digits few small led = absurd (omega (arith, pow-zero 10))
+before_read (suc k) zero digits few small led = ap numeral (digits_none (suc k) digits) ∙ led refl
+before_read (suc k) (suc n) digits few small led =
     let less : suc n / 10 < 10 ^ k = omega (arith, pow-suc 10 k) in
     let first : suc n / 10 ≡ 0 → 48 + suc n % 10 ≢ 48 = λ none e. omega arith in
     ap numeral (digits_more k (suc n) digits (λ e. omega arith)) ∙
-    (before-read k (suc n / 10) ((48 + suc n % 10) ∷ digits) less (omega arith) (λ none. leads _ digits (first none)) ∙
+    (before_read k (suc n / 10) ((48 + suc n % 10) ∷ digits) less (omega arith) (λ none. leads _ digits (first none)) ∙
     digit_read (suc n) digits small)
 
 pub read_back : (n : ℕ) → n ≤ 65535 → numeral (decimal n) ≡ Number n
 unfolding numeral value_from
 read_back n h =
     ap numeral (decimal_before n) ∙
-    (before-read 19 (n / 10) ((48 + n % 10) ∷ []) (omega arith) (omega arith) (λ none. refl) ∙ digit_read n [] h)
+    (before_read 19 (n / 10) ((48 + n % 10) ∷ []) (omega arith) (omega arith) (λ none. refl) ∙ digit_read n [] h)
 
 -- so the digits tell the number
 pub decimal_injective : (n m : ℕ) → n ≤ 65535 → m ≤ 65535 → decimal n ≡ decimal m → n ≡ m

@@ -33,15 +33,15 @@ above_less j k [] h is = tt
 above_less j k (b ∷ s) h is = (omega (arith, is.0), above_less j k s h is.1)
 
 -- what follows a word is nothing, or begins with a byte that is not above the bound
-pub word-told :
+pub word_told :
     (k : ℕ) (v w s t : List ℕ) → Above k v → Above k w → get_or s 0 0 ≤ k → get_or t 0 0 ≤ k →
     v ++ s ≡ w ++ t → (v ≡ w) × (s ≡ t)
-word-told k [] [] s t is are low under e = (refl, e)
-word-told k [] (c ∷ w) s t is are low under e = absurd (omega (arith, are.0, ap (λ l. get_or l 0 0) e))
-word-told k (b ∷ v) [] s t is are low under e = absurd (omega (arith, is.0, ap (λ l. get_or l 0 0) e))
-word-told k (b ∷ v) (c ∷ w) s t is are low under e =
+word_told k [] [] s t is are low under e = (refl, e)
+word_told k [] (c ∷ w) s t is are low under e = absurd (omega (arith, are.0, ap (λ l. get_or l 0 0) e))
+word_told k (b ∷ v) [] s t is are low under e = absurd (omega (arith, is.0, ap (λ l. get_or l 0 0) e))
+word_told k (b ∷ v) (c ∷ w) s t is are low under e =
     let first : b ≡ c = ap (λ l. get_or l 0 0) e in
-    let rest = word-told k v w s t is.1 are.1 low under (ap (drop 1) e) in
+    let rest = word_told k v w s t is.1 are.1 low under (ap (drop 1) e) in
     (cc (first, rest.0), rest.1)
 
 -- the digits of a number are a word

@@ -29,7 +29,7 @@ module _ (m : Machine) (hp : m.pc < 256) (hs : m.sp < 256) (hf : m.flags < 256) 
         named_few (codes "count") 4 m.count (omega arith),
       )
 
-  pub state-whole :
+  pub state_whole :
       let l = lined (state_line m) in
       take l.length l.bytes ≡ state_line m
-  state-whole = holds (state_line m) state_fits
+  state_whole = holds (state_line m) state_fits

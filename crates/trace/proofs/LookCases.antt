@@ -13,26 +13,26 @@ use Rattle.nanocore.specs.declared.answer.StepOutcome.{StepOutcome}
 use Rattle.nanocore.specs.Machine.{most_count}
 use Rattle.nanocore.specs.Numbers.{step_number, stepping}
 use Rattle.nanocore.specs.Step.{Situation, refused_at, situated, step_of}
-use Rattle.nanocore.proofs.RunLaws.{turns_one, turns-plain}
+use Rattle.nanocore.proofs.RunLaws.{turns_one, turns_plain}
 use Rattle.steps.specs.Trace.{completed}
 use Rattle.trace.specs.Look.{look_after, look_number, look_of}
 use Rattle.trace.specs.Seen.{as_look}
 
 -- what the code makes of the step's answer is what the definition does
-as-look :
+as_look_lem :
     (a : StepAnswer) (limit : ℕ) (s : Situation) → (number_of (step_number a) ≡ 2 → ⊥) → (number_of (step_number a) ≡ 9 → ⊥) →
     refused_at (look_number (as_look a limit)) s ≡ look_after (completed (step_number a)) (refused_at (step_number a) s)
-as-look Stepped limit s two nine = refl
-as-look StepAnswer.Halted limit s two nine = refl
-as-look AlreadyHalted limit s two nine = absurd (two refl)
-as-look (StepAnswer.Refused f) limit s two nine = rw (lt-leb (number_of (fault_number f)) 1 (fault_high f))
-as-look CountFull limit s two nine = absurd (nine refl)
+as_look_lem Stepped limit s two nine = refl
+as_look_lem StepAnswer.Halted limit s two nine = refl
+as_look_lem AlreadyHalted limit s two nine = absurd (two refl)
+as_look_lem (StepAnswer.Refused f) limit s two nine = rw (lt-leb (number_of (fault_number f)) 1 (fault_high f))
+as_look_lem CountFull limit s two nine = absurd (nine refl)
 
 -- the step of a look answers neither 2 nor 9
-step-plain :
+step_plain :
     (input : List ℕ) (s : Situation) → s.machine.halted ≡ false → s.machine.count < most_count →
     (number_of (step_of input s).answer ≡ 2 → ⊥) × (number_of (step_of input s).answer ≡ 9 → ⊥)
-step-plain input s h below = rw (← turns_one input s h) (turns-plain input 1 s (omega arith))
+step_plain input s h below = rw (← turns_one input s h) (turns_plain input 1 s (omega arith))
 
 -- by how the machine stands before the look
 module _ (input : List ℕ) (s : Situation) where
@@ -40,25 +40,25 @@ module _ (input : List ℕ) (s : Situation) where
   unfolding look_of
   look_halted h = rw h
 
-  pub look-full :
+  pub look_full :
       s.machine.halted ≡ false → s.machine.limit ≤ s.machine.count → look_of input s ≡ refused_at (10 ∷ s.machine.limit ∷ []) s
   unfolding look_of
-  look-full h b = rw (h, le-leb _ _ b)
+  look_full h b = rw (h, le-leb _ _ b)
 
-  look-taken :
+  look_taken :
       s.machine.halted ≡ false → s.machine.count < s.machine.limit →
       look_of input s ≡ look_after (completed (step_of input s).answer) (step_of input s)
   unfolding look_of
-  look-taken h b = rw (h, lt-leb _ _ b)
+  look_taken h b = rw (h, lt-leb _ _ b)
 
-pub look-stepped :
+pub look_stepped :
     (input : List ℕ) (s : Situation) (last : StepOutcome) (out : List ℕ) → s.machine.halted ≡ false →
     s.machine.count < s.machine.limit → s.machine.limit ≤ most_count → stepping last out ≡ step_of input s →
     refused_at (look_number (as_look last.answer s.machine.limit)) (situated last.machine last.place out last.written)
     ≡ look_of input s
-look-stepped input s last out h b most e =
+look_stepped input s last out h b most e =
     let number : number_of (step_number last.answer) ≡ number_of (step_of input s).answer = ap (λ r. number_of r.answer) e in
-    let plain = step-plain input s h (omega arith) in
-    as-look last.answer s.machine.limit _ (λ z. plain.0 (sym number ∙ z)) (λ z. plain.1 (sym number ∙ z))
+    let plain = step_plain input s h (omega arith) in
+    as_look_lem last.answer s.machine.limit _ (λ z. plain.0 (sym number ∙ z)) (λ z. plain.1 (sym number ∙ z))
     ∙ ap (λ r. look_after (completed r.answer) r) e
-    ∙ sym (look-taken input s h b)
+    ∙ sym (look_taken input s h b)

@@ -15,10 +15,10 @@ use Rattle.nanocore.specs.declared.machine.Machine.{Machine}
 use Rattle.nanocore.specs.Numbers.{run_number}
 use Rattle.nanocore.specs.Run.{onward, run_of}
 use Rattle.nanocore.specs.Step.{Situation, Answered, applied, halted_at, refused_at, step_of}
-use Rattle.nanocore.proofs.RunLaws.{run-full, run_halted, stopped}
+use Rattle.nanocore.proofs.RunLaws.{run_full, run_halted, stopped}
 use Rattle.steps.specs.Trace.{completed}
 use Rattle.steps.proofs.Outcome.{by_outcome}
-use Rattle.steps.proofs.Trace.{fuel-never-decides, run_more, run_stops}
+use Rattle.steps.proofs.Trace.{fuel_never_decides, run_more, run_stops}
 use Rattle.trace.specs.declared.answer.Look.TheVariants.{Ended}
 use Rattle.trace.specs.declared.answer.LookOutcome.{LookOutcome}
 use Rattle.trace.specs.Look.{look_after, look_by, looking, look_number, look_of}
@@ -51,15 +51,15 @@ module _ (input : List ℕ) (s : Situation) where
     left = s.machine.limit - s.machine.count
 
     stops : onward (step_of input s).answer ≡ false → step_of input s ≡ run_of input s
-    stops o = sym (run_stops input left s h b o) ∙ fuel-never-decides input (suc left) s (omega arith)
+    stops o = sym (run_stops input left s h b o) ∙ fuel_never_decides input (suc left) s (omega arith)
 
     goes :
         (t : Situation) → step_of input s ≡ record { answer = 0 ∷ []; after = t } → t.machine.limit - t.machine.count ≤ left →
         run_of input t ≡ run_of input s
     goes t e fewer =
-        sym (fuel-never-decides input left t fewer)
+        sym (fuel_never_decides input left t fewer)
         ∙ sym (run_more input left s h b t e)
-        ∙ fuel-never-decides input (suc left) s (omega arith)
+        ∙ fuel_never_decides input (suc left) s (omega arith)
 
     by_step : Looked input s (look_after (completed (step_of input s).answer) (step_of input s))
     by_step =
@@ -71,16 +71,16 @@ module _ (input : List ℕ) (s : Situation) where
         (λ a t e. gone (applied a s) (goes (applied a s) e (omega arith)) (rw h (omega arith)))
         refl
 
-  by-look :
+  by_look :
       (halted full : Bool) → s.machine.halted ≡ halted → leb s.machine.limit s.machine.count ≡ full →
       Looked input s (look_by halted full (step_of input s) s)
-  by-look true full h f = ended (refused_at (1 ∷ []) s) (omega arith) (sym (run_halted _ input s h))
-  by-look false true h f = ended (refused_at (10 ∷ s.machine.limit ∷ []) s) (omega arith) (sym (run-full _ input s h (leb-true _ _ f)))
-  by-look false false h f = by_step h (leb-false _ _ f)
+  by_look true full h f = ended (refused_at (1 ∷ []) s) (omega arith) (sym (run_halted _ input s h))
+  by_look false true h f = ended (refused_at (10 ∷ s.machine.limit ∷ []) s) (omega arith) (sym (run_full _ input s h (leb-true _ _ f)))
+  by_look false false h f = by_step h (leb-false _ _ f)
 
   looked : Looked input s (look_of input s)
   unfolding look_of
-  looked = by-look s.machine.halted (leb s.machine.limit s.machine.count) refl refl
+  looked = by_look s.machine.halted (leb s.machine.limit s.machine.count) refl refl
 
 -- where a look comes to r
 module _ (input : List ℕ) (s : Situation) {r : Answered} (e : r ≡ look_of input s) where
@@ -103,9 +103,9 @@ answered (RunAnswer.Refused f) none = omega (arith, fault_high f, ap number_of n
 answered (LimitReached limit) none = omega (arith, ap number_of none)
 
 -- a look that ended tells the run's answer
-pub look-told :
+pub look_told :
     (input : List ℕ) (s : Situation) (r : LookOutcome) (out : List ℕ) (a : RunAnswer) → looking r out ≡ look_of input s → r.look ≡ Ended a →
     refused_at (run_number a) (looking r out).after ≡ run_of input s
-look-told input s r out a e told =
+look_told input s r out a e told =
     sym (ap (λ l. refused_at (look_number l) (looking r out).after) told)
     ∙ look_ends input s e (λ none. answered a (sym (ap look_number told) ∙ none))

@@ -34,15 +34,15 @@ own_numbers nothing = true
 own_numbers halts = true
 own_numbers (fault t f) = leb 3 (number_of f) && leb (number_of f) 8
 
-refused-own :
+refused_own :
     (b : Before) (own : Effect) (n : List ℕ) → T (own_numbers b) → fate_by b own ≡ refused n → (3 ≤ number_of n) × (number_of n ≤ 8)
-refused-own nothing own n t h = let z : ◌≡◌ {A = ℕ} 0 1 = cc in omega arith
-refused-own halts own n t h = let z : ◌≡◌ {A = ℕ} 0 1 = cc in omega arith
-refused-own (fault true f) own n t h =
+refused_own nothing own n t h = let z : ◌≡◌ {A = ℕ} 0 1 = cc in omega arith
+refused_own halts own n t h = let z : ◌≡◌ {A = ℕ} 0 1 = cc in omega arith
+refused_own (fault true f) own n t h =
     let same : f ≡ n = cc in
     let parts = both (leb 3 (number_of f)) (leb (number_of f) 8) t in
     rw (← same) (leb→le 3 (number_of f) parts.0, leb→le (number_of f) 8 parts.1)
-refused-own (fault false f) own n t h = let z : ◌≡◌ {A = ℕ} 0 1 = cc in omega arith
+refused_own (fault false f) own n t h = let z : ◌≡◌ {A = ℕ} 0 1 = cc in omega arith
 
 own_numbers_lem : (x y : ℕ) (v : View) (o : Op) → own_numbers (before_of o x y v) ≡ true
 own_numbers_lem x y v = agree (λ o. own_numbers (before_of o x y v)) (λ o. true) refl
@@ -53,7 +53,7 @@ module _ (v : View) (n : List ℕ) where
   refused_at_lem (Found o) one two three h =
       let x = first_of (operands_of (form_of o) two three) in
       let y = second_of (operands_of (form_of o) two three) in
-      refused-own (before_of o x y v) (effect_of o x y v) n (rw (own_numbers_lem x y v o) tt) h
+      refused_own (before_of o x y v) (effect_of o x y v) n (rw (own_numbers_lem x y v o) tt) h
   refused_at_lem Unknown one two three h =
       let same : 3 ∷ one ∷ v.core.pc ∷ [] ≡ n = cc in
       rw (← same) (omega arith)

@@ -1,6 +1,6 @@
 -- What each turn of the scan does to the first of those that are left.
 use Rattle.std.proofs.Common.{sym, ◌∙◌, arith}
-use Rattle.scan.proofs.ScanLaws.{first_end, first-here, first_on}
+use Rattle.scan.proofs.ScanLaws.{first_end, first_here, first_on}
 use Rattle.scan.proofs.scan.first.Goals as goal
 
 pub loop-i-preserved : goal.loop-i-preserved
@@ -15,4 +15,4 @@ returns-after-loop-i-clause-value c =
 pub returns-then-passes-clause-value : goal.returns-then-passes-clause-value
 returns-then-passes-clause-value c =
     let l = c.loop-i in
-    sym (first-here _ _ l.i (omega arith) (sym c.passes.ensures ∙ c.if-passes.true)) ∙ l.invariant.1
+    sym (first_here _ _ l.i (omega arith) (sym c.passes.ensures ∙ c.if-passes.true)) ∙ l.invariant.1
