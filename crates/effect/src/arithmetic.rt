@@ -11,6 +11,7 @@ use std::num::wrapping_add_u8;
 
 impl Core {
     // pc goes on by the length, with the flags of a result.
+    #[tactic(auto, unfolding(crate::specs::Effects::flagged))]
     fn flagged(self, length: u8, write: Write, res: Carried) -> Turn
         ensures { fate result ≡ done (flagged self length write res) }
     {

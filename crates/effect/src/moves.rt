@@ -40,6 +40,7 @@ impl Core {
     }
 
     // pc goes on by the length, and all else stays.
+    #[tactic(auto, unfolding(crate::specs::Effects::kept))]
     pub fn keep(self, length: u8, write: Write) -> Turn
         ensures { fate result ≡ done (kept self length write) }
     {
@@ -53,6 +54,7 @@ impl Core {
     }
 
     // A register takes a byte, with ZN.
+    #[tactic(auto, unfolding(crate::specs::Effects::loaded))]
     pub fn load(self, length: u8, register: u8, value: u8) -> Turn
         ensures { fate result ≡ done (loaded self length register value) }
     {
@@ -72,6 +74,7 @@ impl Core {
         self.load(length, register, memory[address as usize])
     }
 
+    #[tactic(auto, unfolding(crate::specs::Effects::jumped))]
     pub fn jump(self, to: u8) -> Turn
         ensures { fate result ≡ done (jumped self to) }
     {

@@ -15,6 +15,7 @@ pub const STACK_MAX: u8 = 0xFF;
 
 impl Core {
     // The byte goes to the stack, and pc where it is told.
+    #[tactic(auto, unfolding(crate::specs::Effects::pushed))]
     fn put(self, value: u8, to: u8) -> Turn
         ensures { fate result ≡ fate_by (full self) (pushed self value to) }
     {

@@ -16,8 +16,8 @@ pub enum Decoded {
 }
 
 pub fn decode(opcode: u8, second: u8, third: u8) -> Decoded
-    ensures result_value { decoding result ≡ decoded_of opcode second third }
-    ensures result_value_2 { spelling result ≡ spelling_of opcode second third }
+    ensures decoded { decoding result ≡ decoded_of opcode second third }
+    ensures spelling { spelling result ≡ spelling_of opcode second third }
 {
     match Op::decode(opcode) {
         Lookup::Found(op) => {

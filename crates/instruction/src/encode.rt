@@ -56,6 +56,7 @@ pub fn refused(answer: EncodeAnswer) -> Encoded
 }
 
 // Operands of another form are refused before a register that does not exist.
+#[tactic(auto, unfolding(crate::specs::Encode::encoded_of))]
 pub fn encode(op: Op, operands: Operands) -> Encoded
     ensures { encoding result ≡ encoded_of op operands }
 {
