@@ -3,21 +3,13 @@ use Rattle.std.proofs.Common.{sym, ◌∙◌, arith}
 use Rattle.std.proofs.Math.ListN.{length-set}
 use Rattle.fields.proofs.OverlayLaws.{bytes_ended, image_ended, marks_ended, marked, unmarked}
 use Rattle.fields.proofs.overlay.overlay.Goals as goal
-use Rattle.fields.proofs.overlay.overlay.Goals.{then-marks-i-ne0, else-marks-i-ne0}
 
 pub loop-i-preserved : goal.loop-i-preserved
 loop-i-preserved c =
     let l = c.loop-i in
-    elim c.if-marks-i-ne0.branch [
-      | then-marks-i-ne0 w ↦ (
-        rw w.after-is (simp length-set l.invariant.0),
-        rw w.after-is (marked l.after _ _ l.i (omega arith) (omega arith) (omega arith) w.if-marks-i-ne0.true ∙ l.invariant.1),
-      )
-      | else-marks-i-ne0 w ↦ (
-        rw w.after-is l.invariant.0,
-        rw w.after-is (unmarked l.after _ _ l.i (omega arith) (omega arith) (omega arith) w.if-marks-i-ne0.false ∙ l.invariant.1),
-      )
-    ]
+    let image = c.args.image.now in
+    let marks = c.args.marks.now in
+    grind (arith, length-set, marked l.after image marks l.i (omega arith) (omega arith) (omega arith), unmarked l.after image marks l.i (omega arith) (omega arith) (omega arith))
 
 pub returns-after-loop-i : goal.returns-after-loop-i
 returns-after-loop-i c = let l = c.loop-i in sym (bytes_ended l.after _ _ l.i (omega arith)) ∙ l.invariant.1

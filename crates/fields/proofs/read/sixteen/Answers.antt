@@ -4,7 +4,7 @@ use Rattle.std.proofs.Math.ListN.{length-set}
 use Rattle.std.proofs.Math.Seq.{take_all}
 use native.Mathlib.Nat.{zero-add}
 use Rattle.fields.proofs.Fill.{filled_more}
-use Rattle.fields.proofs.ReadLaws.{stretch-more}
+use Rattle.fields.proofs.ReadLaws.{stretch_more}
 use Rattle.fields.proofs.read.sixteen.Goals as goal
 
 pub loop-i-preserved : goal.loop-i-preserved
@@ -13,7 +13,7 @@ loop-i-preserved c =
     let bytes = c.args.bytes.now in (
       omega arith,
       simp length-set l.invariant.1,
-      filled_more l.registers _ l.i _ (omega arith) l.invariant.2 ∙ rw (c.byte_at.ensures, add-one) (sym (simp zero-add at (stretch-more bytes 0 l.i))),
+      filled_more l.registers _ l.i _ (omega arith) l.invariant.2 ∙ rw (c.byte_at.ensures, add-one) (sym (simp zero-add at (stretch_more bytes 0 l.i))),
     )
 
 pub returns : goal.returns
