@@ -2,7 +2,7 @@
 use Rattle.std.proofs.Common.{sym, ◌∙◌, arith}
 use Rattle.std.proofs.Math.ListN.{drop_of_length-le}
 use Rattle.text.specs.Decimal.{value_from}
-use Rattle.text.proofs.NumberLaws.{value-digit, value_low, value_high, value-much}
+use Rattle.text.proofs.NumberLaws.{value_digit, value_low, value_high, value_much}
 use Rattle.text.proofs.number.value.Goals as goal
 
 pub returns-then-c-lt48 : goal.returns-then-c-lt48
@@ -17,7 +17,7 @@ pub returns-then-value-gt65535 : goal.returns-then-value-gt65535
 returns-then-value-gt65535 c =
     let l = c.loop-i in
     sym
-    (value-much
+    (value_much
     c.args.text.now
     l.value
     l.i
@@ -34,7 +34,7 @@ loop-i-preserved c =
       c.if-value-gt65535.false,
       rw c.wide.ensures
           (sym
-          (value-digit
+          (value_digit
           c.args.text.now
           l.value
           l.i

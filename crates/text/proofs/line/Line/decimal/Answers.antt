@@ -2,7 +2,7 @@
 use Rattle.std.proofs.Common.{◌≡◌, refl, sym, ◌∙◌, ap, ◌-◌, take, drop, arith, length-set, length-drop}
 use Rattle.std.proofs.Math.Seq.{take_all}
 use Rattle.text.specs.Lines.{appended}
-use Rattle.text.proofs.DecimalLaws.{digits_before, decimal_before, digits_none, digits_full, digits-turn}
+use Rattle.text.proofs.DecimalLaws.{digits_before, decimal_before, digits_none, digits_full, digits_turn}
 use Rattle.text.proofs.line.Line.decimal.Goals as goal
 use Rattle.text.proofs.line.Line.decimal.Goals.{else-loop-at-test, then-loop-at-test+then-rest-eq0}
 
@@ -12,7 +12,7 @@ loop-at-init c = (omega arith, refl, rw c.digit.ensures (sym (decimal_before c.a
 pub loop-at-preserved : goal.loop-at-preserved
 loop-at-preserved c =
     let l = c.loop-at in
-    let turn = digits-turn l.digits l.at l.rest c.loop-at-test.true (omega arith) c.if-rest-eq0.false in
+    let turn = digits_turn l.digits l.at l.rest c.loop-at-test.true (omega arith) c.if-rest-eq0.false in
     (omega arith, simp length-set l.invariant.1, rw c.digit-in-loop-at.ensures (turn ∙ l.invariant.2))
 
 -- the loop ends with no place before the digits, or with nothing left of the number

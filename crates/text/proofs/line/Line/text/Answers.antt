@@ -2,13 +2,13 @@
 use Rattle.std.proofs.Common.{sym, ◌∙◌, drop, arith}
 use Rattle.std.proofs.Math.ListN.{drop_of_length-le}
 use Rattle.text.specs.Lines.{appended}
-use Rattle.text.proofs.LineLaws.{made, appended-byte, appended_full}
+use Rattle.text.proofs.LineLaws.{made, appended_byte, appended_full}
 use Rattle.text.proofs.line.Line.text.Goals as goal
 
 pub loop-i-preserved : goal.loop-i-preserved
 loop-i-preserved c =
     let l = c.loop-i in
-    (omega arith, sym (appended-byte l.bytes _ l.length l.i (omega arith) (omega arith)) ∙ l.invariant.1)
+    (omega arith, sym (appended_byte l.bytes _ l.length l.i (omega arith) (omega arith)) ∙ l.invariant.1)
 
 pub returns-after-loop-i : goal.returns-after-loop-i
 unfolding appended
