@@ -3,36 +3,37 @@ ghost use Rattle.std.specs.Prelude.{◌+◌, ◌≤◌, ◌<◌};
 
 use fields::apart::alike;
 use fields::overlay::overlay;
-use hexverdict::marks::set_bytes;
-use hexverdict::verdict::verdict;
 use hexread::answer::ReadAnswer;
 use hexread::read::read;
+use hexverdict::marks::set_bytes;
+use hexverdict::verdict::verdict;
 use hexwrite::write::{WriteAnswer, write};
 use program::print;
+use std::rt::Stdout;
 
 // The verdict; then the records that the writer makes of what was read, and whether all else is as it was.
-pub fn run(text: &[u8]) {
+pub fn run(out: Stdout, text: &[u8]) {
     let mut image = image_before();
     let mut marks = marks_before();
     let answer = read(text, &mut image, &mut marks);
-    print::line(verdict(answer, set_bytes(&marks)));
+    print::line(out, verdict(answer, set_bytes(&marks)));
     match answer {
-        ReadAnswer::Done => accepted(&image, &marks),
-        ReadAnswer::Refused(refusal) => refused(&image, &marks),
+        ReadAnswer::Done => accepted(out, &image, &marks),
+        ReadAnswer::Refused(refusal) => refused(out, &image, &marks),
     }
 }
 
-fn accepted(image: &[u8], marks: &[u8]) {
-    let mut text = io::buffer();
+fn accepted(out: Stdout, image: &[u8], marks: &[u8]) {
+    let mut text = [0u8; 4096];
     match write(image, marks, &mut text) {
-        WriteAnswer::Wrote(length) => print::first(&text, length),
-        WriteAnswer::NoRoom(needed) => print::text(b"no room\n"),
-        WriteAnswer::NoImage => print::text(b"no image\n"),
+        WriteAnswer::Wrote(length) => print::first(out, &text, length),
+        WriteAnswer::NoRoom(needed) => print::text(out, b"no room\n"),
+        WriteAnswer::NoImage => print::text(out, b"no image\n"),
     }
     if is_kept(image, marks) {
-        print::text(b"rest kept\n");
+        print::text(out, b"rest kept\n");
     } else {
-        print::text(b"rest changed\n");
+        print::text(out, b"rest changed\n");
     }
 }
 
@@ -44,11 +45,11 @@ fn is_kept(image: &[u8], marks: &[u8]) -> bool {
     alike(&bytes, image) == 256 && alike(&ones, marks) == 256
 }
 
-fn refused(image: &[u8], marks: &[u8]) {
+fn refused(out: Stdout, image: &[u8], marks: &[u8]) {
     if alike(&image_before(), image) == 256 && alike(&marks_before(), marks) == 256 {
-        print::text(b"as found\n");
+        print::text(out, b"as found\n");
     } else {
-        print::text(b"changed\n");
+        print::text(out, b"changed\n");
     }
 }
 

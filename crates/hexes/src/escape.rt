@@ -1,6 +1,6 @@
 // The text of a case, which may have bytes that do not show.
 ghost use Rattle.std.specs.Prelude.{◌≤◌, length};
-ghost use Rattle.io.specs.Counts.{IsPrefixLen};
+ghost use Rattle.files.specs.Counts.{IsPrefixLen};
 
 use digits::digit::digit;
 use fields::read::byte_at;

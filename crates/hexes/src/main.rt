@@ -9,38 +9,39 @@ mod escape;
 mod say;
 
 use escape::plain;
-use program::input::whole_argument;
+use program::input::{has_argument, whole_argument};
 use scan::class::Class;
 use scan::scan::{first, line_end};
+use std::rt::{Env, Files, Stdout};
 
-fn main() {
-    let count = os::arg_count();
-    let mut i: usize = 1;
-    while i < count {
-        run_file(i);
-        i += 1;
+fn main(rt: HostRuntime) {
+    for i in 1..usize::MAX {
+        if !has_argument(&rt, i) {
+            return;
+        }
+        run_file(&rt, rt.stdout(), i);
     }
 }
 
 // The file that the i-th argument names. One that does not fit is not answered at all, so that no text of it is taken for a shorter one.
-fn run_file(i: usize) {
-    let mut cases = io::large_buffer();
-    let got = whole_argument(i, &mut cases);
+fn run_file<R: Env + Files>(rt: &R, out: Stdout, i: usize) {
+    let mut cases = [0u8; 65536];
+    let got = whole_argument(rt, i, &mut cases);
     if got.failed {
-        say::unread(i);
+        say::unread(rt, out, i);
         return;
     }
-    run_cases(&cases[..got.count]);
+    run_cases(out, &cases[..got.count]);
 }
 
 // The first case stands behind the first `#`, and each goes on to the next.
-fn run_cases(cases: &[u8])
+fn run_cases(out: Stdout, cases: &[u8])
     requires { length cases.now ≤ 65536 }
 {
     let mut at: usize = 1;
     while at < cases.len() {
         let end = case_end(cases, at);
-        run_case(&cases[at..end]);
+        run_case(out, &cases[at..end]);
         at = end + 1;
     }
 }
@@ -54,14 +55,14 @@ fn case_end(cases: &[u8], at: usize) -> usize
 }
 
 // The text is never longer than it is written, so it has room.
-fn run_case(case: &[u8])
+fn run_case(out: Stdout, case: &[u8])
     requires { length case.now ≤ 65536 }
 {
     let end = line_end(case, 0);
-    say::headline(&case[..end]);
+    say::headline(out, &case[..end]);
     if end < case.len() {
-        let mut text = io::large_buffer();
+        let mut text = [0u8; 65536];
         let length = plain(&case[end + 1..], &mut text);
-        case::run(&text[..length]);
+        case::run(out, &text[..length]);
     }
 }

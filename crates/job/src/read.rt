@@ -1,12 +1,13 @@
 // The rule from its file, the station's bytes from standard input.
 ghost use Rattle.std.specs.Prelude.{◌≡◌, ◌≤◌, drop};
-ghost use Rattle.io.specs.Counts.{IsPrefixLen};
+ghost use Rattle.files.specs.Counts.{IsPrefixLen};
 
 use crate::arguments;
 use files::Got;
-use libc::STDIN_FILENO;
 use program::say::failed;
+use std::io::Read;
 use std::num::wrapping_add_usize;
+use std::rt::{Env, Files, Stderr, Stdin};
 use text::number::Numeral;
 
 #[derive(Clone, Copy)]
@@ -26,40 +27,60 @@ pub struct Job {
     pub limit: u16,
 }
 
-pub fn read_rule(program: &[u8], buffer: &mut [u8]) -> Job
+pub fn read_rule<R: Env + Files>(rt: &R, err: Stderr, program: &[u8], buffer: &mut [u8]) -> Job
     ensures { IsPrefixLen result.length buffer.new }
 {
-    let mut path = io::buffer();
-    let length = arguments::rule(program, &mut path);
+    let mut path = [0u8; 4096];
+    let length = arguments::rule(rt, err, program, &mut path);
     if length == 0 {
         return without(Found::Nothing);
     }
-    match arguments::limit(program) {
-        Numeral::Number(limit) => read_file(program, &path[..length], limit, buffer),
+    match arguments::limit(rt, err, program) {
+        Numeral::Number(limit) => read_file(rt, err, program, &path[..length], limit, buffer),
         Numeral::NoNumber => without(Found::Nothing),
     }
 }
 
 // A rule that is longer than the buffer is read to its end, since the refusal has its length.
-fn read_file(program: &[u8], path: &[u8], limit: u16, buffer: &mut [u8]) -> Job
+fn read_file<R: Files>(
+    rt: &R,
+    err: Stderr,
+    program: &[u8],
+    path: &[u8],
+    limit: u16,
+    buffer: &mut [u8],
+) -> Job
     ensures { IsPrefixLen result.length buffer.new }
 {
-    let file = os::open_read(path);
-    if file < 0 {
-        failed(program, path);
-        return without(Found::Nothing);
+    match files::open(rt, path) {
+        Ok(mut file) => read_opened(&mut file, err, program, path, limit, buffer),
+        Err(reason) => {
+            failed(err, program, path, reason);
+            without(Found::Nothing)
+        }
     }
+}
+
+fn read_opened<F: Read>(
+    file: &mut F,
+    err: Stderr,
+    program: &[u8],
+    path: &[u8],
+    limit: u16,
+    buffer: &mut [u8],
+) -> Job
+    ensures { IsPrefixLen result.length buffer.new }
+{
     let got = files::read(file, &mut *buffer);
-    if got.failed {
-        failed(program, path);
+    if let Some(reason) = got.reason {
+        failed(err, program, path, reason);
         return without(Found::Nothing);
     }
     let rest = files::skip(file);
-    if rest.failed {
-        failed(program, path);
+    if let Some(reason) = rest.reason {
+        failed(err, program, path, reason);
         return without(Found::Nothing);
     }
-    libc::close(file);
     if rest.count > 0 {
         return without(Found::TooLong(wrapping_add_usize(got.count, rest.count)));
     }
@@ -81,14 +102,20 @@ fn without(found: Found) -> Job
 }
 
 // Each byte of input costs a step at least, so a limit can use no more bytes than its own number. Where a read failed, it was said.
-pub fn read_input(program: &[u8], buffer: &mut [u8], limit: u16) -> Got
+pub fn read_input(
+    mut input: Stdin,
+    err: Stderr,
+    program: &[u8],
+    buffer: &mut [u8],
+    limit: u16,
+) -> Got
     ensures prefix_len { IsPrefixLen result.count buffer.new }
     ensures count_le_limit { result.count ≤ limit }
     ensures buffer_unchanged { drop limit buffer.new ≡ drop limit buffer.old }
 {
-    let got = files::read_some(STDIN_FILENO, buffer, limit as usize);
-    if got.failed {
-        failed(program, b"standard input");
+    let got = files::read_some(&mut input, buffer, limit as usize);
+    if let Some(reason) = got.reason {
+        failed(err, program, b"standard input", reason);
     }
     got
 }

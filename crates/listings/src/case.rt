@@ -5,27 +5,28 @@ use crate::say;
 use digits::unhex::{Unhexed, unhex};
 use listing::listing::{ListAnswer, list};
 use program::print;
+use std::rt::Stdout;
 
 // What the buffer holds before: no byte of a text.
 pub const BEFORE: u8 = 0xA5;
 
 // A case as it is written.
-pub fn read(written: &[u8]) {
-    let mut bytes = io::buffer();
+pub fn read(out: Stdout, written: &[u8]) {
+    let mut bytes = [0u8; 4096];
     match unhex(written, &mut bytes) {
-        Unhexed::Bytes(count) => take(&bytes[..count]),
-        Unhexed::Stopped(at) => say::line(b"no bytes"),
+        Unhexed::Bytes(count) => take(out, &bytes[..count]),
+        Unhexed::Stopped(at) => say::line(out, b"no bytes"),
     }
 }
 
 // The start, the room in two bytes, the higher first, and the program.
-fn take(case: &[u8]) {
+fn take(out: Stdout, case: &[u8]) {
     if case.len() < 3 {
-        say::line(b"no case");
+        say::line(out, b"no case");
         return;
     }
     let room = wide(case[1]) * 256 + wide(case[2]);
-    run(&case[3..], case[0], room);
+    run(out, &case[3..], case[0], room);
 }
 
 pub fn wide(byte: u8) -> usize
@@ -35,15 +36,15 @@ pub fn wide(byte: u8) -> usize
 }
 
 // The answer's number and values, the text, and whether the bytes behind it are as before.
-fn run(program: &[u8], start: u8, room: usize) {
+fn run(out: Stdout, program: &[u8], start: u8, room: usize) {
     let mut space = filled();
     let answer = list_into(program, start, &mut space, room);
-    let length = tell(answer);
-    print::first(&space, length);
+    let length = tell(out, answer);
+    print::first(out, &space, length);
     if untouched(&space, length) {
-        say::line(b"rest untouched");
+        say::line(out, b"rest untouched");
     } else {
-        say::line(b"rest touched");
+        say::line(out, b"rest touched");
     }
 }
 
@@ -62,26 +63,26 @@ fn list_into(program: &[u8], start: u8, space: &mut [u8], room: usize) -> ListAn
 }
 
 // Prints the answer and gives how long its text is.
-fn tell(answer: ListAnswer) -> usize {
-    print::text(b"answer");
+fn tell(out: Stdout, answer: ListAnswer) -> usize {
+    print::text(out, b"answer");
     let mut written: usize = 0;
     match answer {
         ListAnswer::Listed(length) => {
-            say::number(0);
-            say::number(length);
+            say::number(out, 0);
+            say::number(out, length);
             written = length;
         },
         ListAnswer::TooLong { length, start } => {
-            say::number(11);
-            say::number(length);
-            say::number(start as usize);
+            say::number(out, 11);
+            say::number(out, length);
+            say::number(out, start as usize);
         },
         ListAnswer::NoRoom(needed) => {
-            say::number(14);
-            say::number(needed);
+            say::number(out, 14);
+            say::number(out, needed);
         },
     }
-    say::line(b"");
+    say::line(out, b"");
     written
 }
 

@@ -9,31 +9,33 @@ mod tails;
 use program::input::whole_argument;
 use scan::class::Class;
 use scan::scan::{first, line_end};
+use std::rt::Stdout;
 
-fn main() {
-    let mut cases = io::large_buffer();
-    let got = whole_argument(1, &mut cases);
+fn main(rt: HostRuntime) {
+    let out = rt.stdout();
+    let mut cases = [0u8; 65536];
+    let got = whole_argument(&rt, 1, &mut cases);
     if got.failed {
-        say::line(b"not read");
+        say::line(out, b"not read");
         return;
     }
-    run_cases(&cases[..got.count]);
-    tails::all();
+    run_cases(out, &cases[..got.count]);
+    tails::all(out);
 }
 
-fn run_cases(cases: &[u8]) {
+fn run_cases(out: Stdout, cases: &[u8]) {
     let mut at: usize = 0;
     while at < cases.len() {
         let end = line_end(cases, at);
-        run_line(&cases[at..end]);
+        run_line(out, &cases[at..end]);
         at = end + 1;
     }
 }
 
-fn run_line(line: &[u8]) {
+fn run_line(out: Stdout, line: &[u8]) {
     let end = first(Class::Is(b':'), line);
     if end < line.len() {
-        say::line(&line[..end]);
-        case::read(&line[end + 1..]);
+        say::line(out, &line[..end]);
+        case::read(out, &line[end + 1..]);
     }
 }

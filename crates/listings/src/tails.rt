@@ -5,6 +5,7 @@ use crate::say;
 use listing::listing::{ListAnswer, list};
 use program::print;
 use std::num::wrapping_add_usize;
+use std::rt::Stdout;
 
 // What stands third: a value or an address, a byte that begins nothing, or, where the first byte stands alone, the second's register, not plain.
 const THIRD: u8 = 0xA7;
@@ -31,22 +32,22 @@ impl Sum {
     }
 }
 
-pub fn all() {
-    say::line(b"every first byte before every second");
+pub fn all(out: Stdout) {
+    say::line(out, b"every first byte before every second");
     let mut i: usize = 0;
     while i < 256 {
-        tell(i as u8);
+        tell(out, i as u8);
         i += 1;
     }
 }
 
 // The byte, then the length and the check of its texts.
-fn tell(first: u8) {
+fn tell(out: Stdout, first: u8) {
     let sum = before_every(first);
-    print::number(first as usize);
-    say::number(sum.length);
-    say::number(sum.check);
-    say::line(b"");
+    print::number(out, first as usize);
+    say::number(out, sum.length);
+    say::number(out, sum.check);
+    say::line(out, b"");
 }
 
 fn before_every(first: u8) -> Sum {

@@ -7,35 +7,36 @@ ghost use Rattle.std.specs.Prelude.{◌≤◌, length};
 mod say;
 
 use labels::pass::map_labels;
-use program::input::whole_argument;
+use program::input::{has_argument, whole_argument};
 use scan::class::Class;
 use scan::scan::first;
+use std::rt::{Env, Files, Stdout};
 
-fn main() {
-    let count = os::arg_count();
-    let mut i: usize = 1;
-    while i < count {
-        map_file(i);
-        i += 1;
+fn main(rt: HostRuntime) {
+    for i in 1..usize::MAX {
+        if !has_argument(&rt, i) {
+            return;
+        }
+        map_file(&rt, rt.stdout(), i);
     }
 }
 
 // The file that the i-th argument names. One that does not fit is not answered at all, so that no source of it is taken for a shorter one.
-fn map_file(i: usize) {
-    let mut sources = io::large_buffer();
-    let got = whole_argument(i, &mut sources);
+fn map_file<R: Env + Files>(rt: &R, out: Stdout, i: usize) {
+    let mut sources = [0u8; 65536];
+    let got = whole_argument(rt, i, &mut sources);
     if got.failed {
-        say::unread(i);
+        say::unread(out, i);
         return;
     }
-    map_sources(&sources[..got.count]);
+    map_sources(out, &sources[..got.count]);
 }
 
-fn map_sources(sources: &[u8]) {
+fn map_sources(out: Stdout, sources: &[u8]) {
     let mut at: usize = 0;
     while at < sources.len() {
         let end = source_end(sources, at);
-        say::mapped(map_labels(&sources[at..end]));
+        say::mapped(out, map_labels(&sources[at..end]));
         at = end + 1;
     }
 }

@@ -9,28 +9,33 @@ mod say;
 
 use labels::pass::{MapAnswer, map_labels};
 use program::input::standard_input;
+use program::say::Streams;
 use table::labels::Labels;
 
 // The buffer holds far more than a source may have, so what does not fit is refused, whatever follows.
-fn main() {
-    let mut source = io::large_buffer();
-    let got = standard_input(b"nanolabels", &mut source);
+fn main(rt: HostRuntime) {
+    let to = Streams {
+        out: rt.stdout(),
+        err: rt.stderr(),
+    };
+    let mut source = [0u8; 65536];
+    let got = standard_input(rt.stdin(), to.err, b"nanolabels", &mut source);
     if !got.failed {
-        map(&source[..got.count]);
+        map(to, &source[..got.count]);
     }
 }
 
-fn map(source: &[u8]) {
+fn map(to: Streams, source: &[u8]) {
     let mapped = map_labels(source);
     let answer = mapped.answer;
     match answer {
-        MapAnswer::Done => print(source, mapped.labels),
-        MapAnswer::Refused(refusal) => say::refused(refusal),
+        MapAnswer::Done => print(to, source, mapped.labels),
+        MapAnswer::Refused(refusal) => say::refused(to, refusal),
     }
 }
 
 // Each name is a stretch of the source. It stops where a line could not be written, which is said once.
-fn print(source: &[u8], labels: Labels)
+fn print(to: Streams, source: &[u8], labels: Labels)
     requires count_bound { labels.count ≤ 64 }
     requires inside { Inside source.now labels }
 {
@@ -41,8 +46,8 @@ fn print(source: &[u8], labels: Labels)
     let mut i: usize = 0;
     while i < count {
         let from = places[i] as usize;
-        let to = from + lengths[i] as usize;
-        if !say::label(&source[from..to], addresses[i]) {
+        let end = from + lengths[i] as usize;
+        if !say::label(to, &source[from..end], addresses[i]) {
             return;
         }
         i += 1;

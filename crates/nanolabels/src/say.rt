@@ -1,15 +1,17 @@
 // What nanolabels writes.
 use labels::pass::Refusal;
 use labels::verdict::verdict;
-use program::say::{end, line, print, told};
+use program::say::{Streams, end, line, print, told};
+use std::rt::Stderr;
 use text::line::Line;
 
 // A name and its address, and whether they were written.
-pub fn label(name: &[u8], address: u8) -> bool {
-    if !print(b"nanolabels", name, name.len()) {
+pub fn label(to: Streams, name: &[u8], address: u8) -> bool {
+    if !print(to, b"nanolabels", name, name.len()) {
         return false;
     }
     line(
+        to,
         b"nanolabels",
         Line::empty()
             .text(b" ")
@@ -19,22 +21,29 @@ pub fn label(name: &[u8], address: u8) -> bool {
 }
 
 // The verdict on standard output, and why on standard error: a label may be called `refused`, so standard output alone does not tell.
-pub fn refused(refusal: Refusal) {
-    line(b"nanolabels", verdict(refusal));
+pub fn refused(to: Streams, refusal: Refusal) {
+    line(to, b"nanolabels", verdict(refusal));
     match refusal {
         Refusal::NoSource => {
-            told(begun());
-            end(b"a source has at most 16384 bytes, and none above 0x7F");
+            told(to.err, begun());
+            end(
+                to.err,
+                b"a source has at most 16384 bytes, and none above 0x7F",
+            );
         },
-        Refusal::ShortString(n) => in_line(n, b".STRING takes two quotes, before any ;"),
-        Refusal::NoOperation(n) => in_line(n, b"no label, and its first word is no operation"),
-        Refusal::TooManyLabels(n) => in_line(n, b"a 65th label"),
+        Refusal::ShortString(n) => in_line(to.err, n, b".STRING takes two quotes, before any ;"),
+        Refusal::NoOperation(n) => in_line(
+            to.err,
+            n,
+            b"no label, and its first word is no operation",
+        ),
+        Refusal::TooManyLabels(n) => in_line(to.err, n, b"a 65th label"),
     }
 }
 
-fn in_line(number: usize, words: &[u8]) {
-    told(begun().text(b"line ").decimal(number).text(b": "));
-    end(words);
+fn in_line(err: Stderr, number: usize, words: &[u8]) {
+    told(err, begun().text(b"line ").decimal(number).text(b": "));
+    end(err, words);
 }
 
 fn begun() -> Line {

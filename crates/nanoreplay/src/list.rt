@@ -5,7 +5,9 @@ use crate::say;
 use compare::verdict::Verdict;
 use lines::line::{Line, first_word, replay_line, word_end};
 use scan::scan::line_end;
+use std::io::Read;
 use std::num::wrapping_add_u64;
+use std::rt::Stdout;
 
 // So many differences are printed; all are counted.
 const SHOWN: u64 = 20;
@@ -35,9 +37,9 @@ struct Reading {
 }
 
 // Reads the list to its end and says how its cases compared.
-pub fn replay_list(file: i32) {
-    let mut text = io::large_buffer();
-    let mut bytes = io::large_buffer();
+pub fn replay_list<R: Read>(file: &mut R, out: Stdout) {
+    let mut text = [0u8; 65536];
+    let mut bytes = [0u8; 65536];
     let mut reading = Reading {
         tally: Tally {
             lines: 0,
@@ -49,32 +51,39 @@ pub fn replay_list(file: i32) {
         more: true,
     };
     // a proved loop has to end, and nothing says that a file does: so many turns no run uses up
-    let mut turns = u64::MAX;
-    while turns > 0 && reading.more {
-        reading = read_on(file, &mut text, &mut bytes, reading);
-        turns -= 1;
+    for _ in 0..u64::MAX {
+        if !reading.more {
+            break;
+        }
+        reading = read_on(file, out, &mut text, &mut bytes, reading);
     }
-    say::tally(reading.tally);
+    say::tally(out, reading.tally);
 }
 
 // Reads once, and replays the lines that are whole by then.
-fn read_on(file: i32, text: &mut [u8], bytes: &mut [u8], reading: Reading) -> Reading {
+fn read_on<R: Read>(
+    file: &mut R,
+    out: Stdout,
+    text: &mut [u8],
+    bytes: &mut [u8],
+    reading: Reading,
+) -> Reading {
     let waiting = reading.waiting;
     let tally = reading.tally;
     if waiting >= text.len() {
-        say::too_long(wrapping_add_u64(tally.lines, 1), text.len());
+        say::too_long(out, wrapping_add_u64(tally.lines, 1), text.len());
         return ended(unread(tally));
     }
-    let got = io::read_full(file, &mut text[waiting..]);
+    let got = files::read(file, &mut text[waiting..]).count;
     if got == 0 {
         if waiting == 0 {
             return ended(tally);
         }
-        say::cut(wrapping_add_u64(tally.lines, 1));
+        say::cut(out, wrapping_add_u64(tally.lines, 1));
         return ended(unread(tally));
     }
     let filled = waiting + got;
-    let lines = replay_lines(&text[..filled], bytes, tally);
+    let lines = replay_lines(out, &text[..filled], bytes, tally);
     let counted = lines.tally;
     let left = move_down(text, lines.used, filled);
     Reading {
@@ -93,7 +102,7 @@ fn ended(tally: Tally) -> Reading {
 }
 
 // Replays the lines of the text that have their LF.
-fn replay_lines(text: &[u8], bytes: &mut [u8], tally: Tally) -> Lines
+fn replay_lines(out: Stdout, text: &[u8], bytes: &mut [u8], tally: Tally) -> Lines
     ensures { result.used ≤ length text.now }
 {
     let mut counted = tally;
@@ -103,7 +112,7 @@ fn replay_lines(text: &[u8], bytes: &mut [u8], tally: Tally) -> Lines
         if end >= text.len() {
             break;
         }
-        counted = replay_one(&text[at..end], bytes, counted);
+        counted = replay_one(out, &text[at..end], bytes, counted);
         at = end + 1;
     }
     Lines {
@@ -127,7 +136,7 @@ fn move_down(text: &mut [u8], from: usize, to: usize) -> usize
 }
 
 // Replays the case of one line, says what is to be said of it, and counts it.
-fn replay_one(line: &[u8], bytes: &mut [u8], tally: Tally) -> Tally {
+fn replay_one(out: Stdout, line: &[u8], bytes: &mut [u8], tally: Tally) -> Tally {
     let t = Tally {
         lines: wrapping_add_u64(tally.lines, 1),
         compared: tally.compared,
@@ -138,13 +147,13 @@ fn replay_one(line: &[u8], bytes: &mut [u8], tally: Tally) -> Tally {
         return t;
     }
     match replay_line(line, bytes) {
-        Line::Judged(verdict) => judged(line, verdict, t),
+        Line::Judged(verdict) => judged(out, line, verdict, t),
         Line::NoKind => {
-            say::no_kind(t.lines);
+            say::no_kind(out, t.lines);
             unread(t)
         },
         Line::NoByte(at) => {
-            say::no_byte(t.lines, word_end(line), at);
+            say::no_byte(out, t.lines, word_end(line), at);
             unread(t)
         },
     }
@@ -157,22 +166,22 @@ fn is_remark(line: &[u8]) -> bool {
     line[0] == b'#'
 }
 
-fn judged(line: &[u8], verdict: Verdict, t: Tally) -> Tally {
+fn judged(out: Stdout, line: &[u8], verdict: Verdict, t: Tally) -> Tally {
     match verdict {
         Verdict::Same => compared(t, 0),
         Verdict::Differs(difference) => {
             if t.differ < SHOWN {
                 let end = word_end(line);
-                say::differs(t.lines, first_word(&line[..end]), difference);
+                say::differs(out, t.lines, first_word(&line[..end]), difference);
             }
             compared(t, 1)
         },
         Verdict::Torn(needed) => {
-            say::torn(t.lines, needed);
+            say::torn(out, t.lines, needed);
             unread(t)
         },
         Verdict::Unfit => {
-            say::unfit(t.lines);
+            say::unfit(out, t.lines);
             unread(t)
         },
     }

@@ -6,36 +6,47 @@
 mod list;
 mod say;
 
-use libc::STDIN_FILENO;
+use std::env::FillError;
+use std::io::Error;
+use std::rt::{Env, Files, Stderr, Stdout};
 
-fn main() {
-    let count = os::arg_count();
-    if count < 2 {
-        list::replay_list(STDIN_FILENO);
+// The system's number for a name that is too long.
+const NAME_TOO_LONG: i32 = 36;
+
+fn main(rt: HostRuntime) {
+    let (out, err) = (rt.stdout(), rt.stderr());
+    if !replay_file(&rt, out, err, 1) {
+        list::replay_list(&mut rt.stdin(), out);
         return;
     }
-    let mut i: usize = 1;
-    while i < count {
-        replay_file(i);
-        i += 1;
+    for i in 2..usize::MAX {
+        if !replay_file(&rt, out, err, i) {
+            return;
+        }
     }
 }
 
-// The file that an argument names.
-fn replay_file(i: usize) {
-    let mut path = io::buffer();
-    let length = os::arg(i, &mut path);
-    if os::errno() != 0 {
-        os::fail(b"nanoreplay: an argument");
-        return;
+// The file that an argument names, and whether there is such an argument.
+fn replay_file<R: Env + Files>(rt: &R, out: Stdout, err: Stderr, i: usize) -> bool {
+    let mut path = [0u8; 4096];
+    match rt.arg(i, &mut path) {
+        Ok(length) => replay_named(rt, out, err, &path[..length]),
+        Err(FillError::TooLong) => {
+            let reason = Error::from_raw_os_error(NAME_TOO_LONG);
+            say::failed(err, b"nanoreplay: an argument", reason);
+        }
+        Err(FillError::NotPresent) => return false,
     }
-    let file = os::open_read(&path[..length]);
-    if file < 0 {
-        os::fail(&path[..length]);
-        return;
+    true
+}
+
+fn replay_named<R: Files>(rt: &R, out: Stdout, err: Stderr, path: &[u8]) {
+    match files::open(rt, path) {
+        Ok(mut file) => {
+            say::text(out, path);
+            say::line_end(out);
+            list::replay_list(&mut file, out);
+        }
+        Err(reason) => say::failed(err, path, reason),
     }
-    say::text(&path[..length]);
-    say::line_end();
-    list::replay_list(file);
-    libc::close(file);
 }

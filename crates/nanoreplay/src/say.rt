@@ -1,153 +1,170 @@
 // What nanoreplay prints.
 use crate::list::Tally;
 use compare::verdict::{Difference, Part};
-use libc::STDOUT_FILENO;
 use lines::line::Word;
+use std::io::Error;
 use std::num::wrapping_add_u64;
+use std::rt::{Stderr, Stdout};
 
-pub fn text(bytes: &[u8]) {
-    io::write_all(STDOUT_FILENO, bytes);
+// What failed, and why, on standard error.
+pub fn failed(err: Stderr, what: &[u8], reason: Error) {
+    let _ = err.write_all(what);
+    let _ = err.write_all(b": ");
+    let _ = err.println(reason);
 }
 
-pub fn number(n: u64) {
-    io::print_decimal(STDOUT_FILENO, n);
+pub fn text(out: Stdout, bytes: &[u8]) {
+    let _ = out.write_all(bytes);
 }
 
-pub fn line_end() {
-    text(b"\n");
+pub fn number(out: Stdout, n: u64) {
+    let _ = out.print(n);
+}
+
+pub fn line_end(out: Stdout) {
+    text(out, b"\n");
 }
 
 // The line at which something is to be said.
-fn line(number_of_line: u64) {
-    text(b"line ");
-    number(number_of_line);
-    text(b": ");
+fn line(out: Stdout, number_of_line: u64) {
+    text(out, b"line ");
+    number(out, number_of_line);
+    text(out, b": ");
 }
 
 // `compared N differ M`, and before it how many lines were no cases, where there were any.
-pub fn tally(t: Tally) {
+pub fn tally(out: Stdout, t: Tally) {
     if t.unread > 0 {
-        text(b"not compared: ");
-        number(t.unread);
-        line_end();
+        text(out, b"not compared: ");
+        number(out, t.unread);
+        line_end(out);
     }
-    text(b"compared ");
-    number(t.compared);
-    text(b" differ ");
-    number(t.differ);
-    line_end();
+    text(out, b"compared ");
+    number(out, t.compared);
+    text(out, b" differ ");
+    number(out, t.differ);
+    line_end(out);
 }
 
-pub fn too_long(at: u64, most: usize) {
-    line(at);
-    text(b"longer than ");
-    number(most as u64);
-    text(b" bytes; the rest of the list is not read");
-    line_end();
+pub fn too_long(out: Stdout, at: u64, most: usize) {
+    line(out, at);
+    text(out, b"longer than ");
+    number(out, most as u64);
+    text(out, b" bytes; the rest of the list is not read");
+    line_end(out);
 }
 
-pub fn cut(at: u64) {
-    line(at);
-    text(b"the list ends inside it");
-    line_end();
+pub fn cut(out: Stdout, at: u64) {
+    line(out, at);
+    text(out, b"the list ends inside it");
+    line_end(out);
 }
 
-pub fn no_kind(at: u64) {
-    line(at);
-    text(b"its first word is none of step, run, load, opcode, name, flags");
-    line_end();
+pub fn no_kind(out: Stdout, at: u64) {
+    line(out, at);
+    text(
+        out,
+        b"its first word is none of step, run, load, opcode, name, flags",
+    );
+    line_end(out);
 }
 
 // Columns are counted from 1: the word's bytes, and so many behind it.
-pub fn no_byte(at: u64, word: usize, behind: usize) {
-    line(at);
-    text(b"no byte at column ");
-    number(wrapping_add_u64(wrapping_add_u64(word as u64, behind as u64), 1));
-    line_end();
+pub fn no_byte(out: Stdout, at: u64, word: usize, behind: usize) {
+    line(out, at);
+    text(out, b"no byte at column ");
+    number(
+        out,
+        wrapping_add_u64(wrapping_add_u64(word as u64, behind as u64), 1),
+    );
+    line_end(out);
 }
 
-pub fn torn(at: u64, needed: usize) {
-    line(at);
-    text(b"torn: by its own counts the case has ");
-    number(needed as u64);
-    text(b" bytes");
-    line_end();
+pub fn torn(out: Stdout, at: u64, needed: usize) {
+    line(out, at);
+    text(out, b"torn: by its own counts the case has ");
+    number(out, needed as u64);
+    text(out, b" bytes");
+    line_end(out);
 }
 
-pub fn unfit(at: u64) {
-    line(at);
-    text(b"halted, count, limit, start or room is out of its range");
-    line_end();
+pub fn unfit(out: Stdout, at: u64) {
+    line(out, at);
+    text(
+        out,
+        b"halted, count, limit, start or room is out of its range",
+    );
+    line_end(out);
 }
 
-pub fn differs(at: u64, word: Word, d: Difference) {
-    line(at);
-    kind(word);
+pub fn differs(out: Stdout, at: u64, word: Word, d: Difference) {
+    line(out, at);
+    kind(out, word);
     let part = d.part;
     match part {
-        Part::Number => field(word, d.index),
+        Part::Number => field(out, word, d.index),
         Part::Register => {
-            text(b"register ");
-            number(d.index as u64);
+            text(out, b"register ");
+            number(out, d.index as u64);
         },
         Part::Memory => {
-            text(b"memory ");
-            number(d.index as u64);
+            text(out, b"memory ");
+            number(out, d.index as u64);
         },
         Part::Output => {
-            text(b"output ");
-            number(d.index as u64);
+            text(out, b"output ");
+            number(out, d.index as u64);
         },
     }
-    text(b" is ");
-    number(d.ours as u64);
-    text(b", the case has ");
-    number(d.theirs as u64);
-    line_end();
+    text(out, b" is ");
+    number(out, d.ours as u64);
+    text(out, b", the case has ");
+    number(out, d.theirs as u64);
+    line_end(out);
 }
 
-fn kind(word: Word) {
+fn kind(out: Stdout, word: Word) {
     match word {
-        Word::Step => text(b"step: "),
-        Word::Run => text(b"run: "),
-        Word::Load => text(b"load: "),
-        Word::Opcode => text(b"opcode: "),
-        Word::Name => text(b"name: "),
-        Word::Flags => text(b"flags: "),
+        Word::Step => text(out, b"step: "),
+        Word::Run => text(out, b"run: "),
+        Word::Load => text(out, b"load: "),
+        Word::Opcode => text(out, b"opcode: "),
+        Word::Name => text(out, b"name: "),
+        Word::Flags => text(out, b"flags: "),
         Word::Unknown => {},
     }
 }
 
 // The name of a number of an answer: of a machine's by what it is, of the others by its place.
-fn field(word: Word, index: usize) {
+fn field(out: Stdout, word: Word, index: usize) {
     match word {
-        Word::Step => machine_field(index),
-        Word::Run => machine_field(index),
-        Word::Load => machine_field(index),
-        Word::Opcode => plain_field(index),
-        Word::Name => plain_field(index),
-        Word::Flags => plain_field(index),
-        Word::Unknown => plain_field(index),
+        Word::Step => machine_field(out, index),
+        Word::Run => machine_field(out, index),
+        Word::Load => machine_field(out, index),
+        Word::Opcode => plain_field(out, index),
+        Word::Name => plain_field(out, index),
+        Word::Flags => plain_field(out, index),
+        Word::Unknown => plain_field(out, index),
     }
 }
 
-fn machine_field(index: usize) {
+fn machine_field(out: Stdout, index: usize) {
     match index {
-        0 => text(b"the number"),
-        1 => text(b"the first value"),
-        2 => text(b"the second value"),
-        3 => text(b"pc"),
-        4 => text(b"sp"),
-        5 => text(b"flags"),
-        6 => text(b"halted"),
-        7 => text(b"count"),
-        8 => text(b"limit"),
-        9 => text(b"the place"),
-        _ => text(b"the number written"),
+        0 => text(out, b"the number"),
+        1 => text(out, b"the first value"),
+        2 => text(out, b"the second value"),
+        3 => text(out, b"pc"),
+        4 => text(out, b"sp"),
+        5 => text(out, b"flags"),
+        6 => text(out, b"halted"),
+        7 => text(out, b"count"),
+        8 => text(out, b"limit"),
+        9 => text(out, b"the place"),
+        _ => text(out, b"the number written"),
     }
 }
 
-fn plain_field(index: usize) {
-    text(b"answer byte ");
-    number(index as u64);
+fn plain_field(out: Stdout, index: usize) {
+    text(out, b"answer byte ");
+    number(out, index as u64);
 }

@@ -5,29 +5,35 @@
 use job::read::{Found, read_input, read_rule};
 use nanocore::answer::LoadAnswer;
 use nanocore::machine::Machine;
+use program::say::Streams;
 use rule::rule::load_rule;
 use rule::verdict::{too_long, verdict};
+use std::rt::Stdin;
 use text::line::Line;
 use trace::answer::Look;
 use trace::line::line;
 use trace::look::look;
 
-fn main() {
-    let mut rule = io::large_buffer();
-    let job = read_rule(b"nanotrace", &mut rule);
+fn main(rt: HostRuntime) {
+    let to = Streams {
+        out: rt.stdout(),
+        err: rt.stderr(),
+    };
+    let mut rule = [0u8; 65536];
+    let job = read_rule(&rt, to.err, b"nanotrace", &mut rule);
     let found = job.found;
     match found {
-        Found::Rule => trace(&rule[..job.length], job.limit),
+        Found::Rule => trace(rt.stdin(), to, &rule[..job.length], job.limit),
         Found::TooLong(length) => {
-            say(too_long(length, 0));
-        },
-        Found::Nothing => {},
+            say(to, too_long(length, 0));
+        }
+        Found::Nothing => {}
     }
 }
 
-fn trace(rule: &[u8], limit: u16) {
-    let mut input = io::large_buffer();
-    let got = read_input(b"nanotrace", &mut input, limit);
+fn trace(from: Stdin, to: Streams, rule: &[u8], limit: u16) {
+    let mut input = [0u8; 65536];
+    let got = read_input(from, to.err, b"nanotrace", &mut input, limit);
     if got.failed {
         return;
     }
@@ -35,15 +41,15 @@ fn trace(rule: &[u8], limit: u16) {
     let answer = loaded.answer;
     match answer {
         LoadAnswer::TooLong { length, start } => {
-            say(too_long(length, start));
-        },
-        LoadAnswer::Loaded => follow(loaded.machine, &input[..got.count]),
+            say(to, too_long(length, start));
+        }
+        LoadAnswer::Loaded => follow(to, loaded.machine, &input[..got.count]),
     }
 }
 
 // It stops where a line could not be written, which is said once. There is room for all that a limit can print.
-fn follow(machine: Machine, input: &[u8]) {
-    let mut output = io::large_buffer();
+fn follow(to: Streams, machine: Machine, input: &[u8]) {
+    let mut output = [0u8; 65536];
     let mut at = machine;
     let mut place: usize = 0;
     let mut written: usize = 0;
@@ -53,11 +59,11 @@ fn follow(machine: Machine, input: &[u8]) {
         let seen = looked.look;
         match seen {
             Look::Ended(answer) => {
-                say(verdict(answer, after.count, after.pc));
+                say(to, verdict(answer, after.count, after.pc));
                 return;
             }
             Look::Completed => {
-                if !say(line(after)) {
+                if !say(to, line(after)) {
                     return;
                 }
                 at = after;
@@ -69,6 +75,6 @@ fn follow(machine: Machine, input: &[u8]) {
 }
 
 // Whether the line was written; where it was not, it was said why.
-fn say(line: Line) -> bool {
-    program::say::line(b"nanotrace", line)
+fn say(to: Streams, line: Line) -> bool {
+    program::say::line(to, b"nanotrace", line)
 }

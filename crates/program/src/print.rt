@@ -1,28 +1,29 @@
 // What the programs of the gate print. Whether it was written is not asked: what is missing differs from what the gate expects.
-use libc::STDOUT_FILENO;
+use std::rt::{Env, Stdout};
 use text::line::Line;
 
-pub fn text(bytes: &[u8]) {
-    io::write_all(STDOUT_FILENO, bytes);
+pub fn text(out: Stdout, bytes: &[u8]) {
+    first(out, bytes, bytes.len());
 }
 
 // So many bytes from the start on.
-pub fn first(bytes: &[u8], count: usize) {
-    files::write(STDOUT_FILENO, bytes, count);
+pub fn first(mut out: Stdout, bytes: &[u8], count: usize) {
+    let _ = files::write(&mut out, bytes, count);
 }
 
-pub fn line(line: Line) {
+pub fn line(out: Stdout, line: Line) {
     let bytes = line.bytes;
-    first(&bytes, line.length);
+    first(out, &bytes, line.length);
 }
 
-pub fn number(n: usize) {
-    io::print_decimal(STDOUT_FILENO, n as u64);
+pub fn number(out: Stdout, n: usize) {
+    let _ = out.print(n);
 }
 
 // The i-th argument, nothing where there is none.
-pub fn argument(i: usize) {
-    let mut space = io::buffer();
-    let length = os::arg(i, &mut space);
-    text(&space[..length]);
+pub fn argument<R: Env>(rt: &R, out: Stdout, i: usize) {
+    let mut space = [0u8; 4096];
+    if let Ok(length) = rt.arg(i, &mut space) {
+        text(out, &space[..length]);
+    }
 }

@@ -6,27 +6,28 @@ use nanocore::answer::{LoadAnswer, RunOutcome};
 use nanocore::machine::Machine;
 use program::print;
 use rule::rule::load_rule;
+use std::rt::Stdout;
 use trace::run::run_by_looks;
 
 // A rule that is too long takes no step.
-pub fn compare(rule: &[u8], limit: u16, input: &[u8]) {
+pub fn compare(out: Stdout, rule: &[u8], limit: u16, input: &[u8]) {
     let loaded = load_rule(rule, limit);
     let answer = loaded.answer;
     match answer {
-        LoadAnswer::Loaded => take(loaded.machine, input),
-        LoadAnswer::TooLong { length, start } => print::text(b"no lent step\n"),
+        LoadAnswer::Loaded => take(out, loaded.machine, input),
+        LoadAnswer::TooLong { length, start } => print::text(out, b"no lent step\n"),
     }
 }
 
-fn take(machine: Machine, input: &[u8]) {
-    let mut printed = io::large_buffer();
+fn take(out: Stdout, machine: Machine, input: &[u8]) {
+    let mut printed = [0u8; 65536];
     let ran = all(machine.run(input, 0, &mut printed, 0));
-    let mut lent = io::large_buffer();
+    let mut lent = [0u8; 65536];
     let stepped = all(run_by_looks(machine, input, 0, &mut lent, 0));
     if same(ran, stepped) && alike(&printed, &lent) == 65536 {
-        print::text(b"lent steps as the run\n");
+        print::text(out, b"lent steps as the run\n");
     } else {
-        print::text(b"lent steps differ from the run\n");
+        print::text(out, b"lent steps differ from the run\n");
     }
 }
 

@@ -6,15 +6,16 @@ mod endings;
 mod example;
 mod lent;
 
-fn main() {
-    endings::print();
-    let count = os::arg_count();
+use program::input::has_argument;
+
+fn main(rt: HostRuntime) {
+    endings::print(rt.stdout());
     let mut i: usize = 3;
-    while i < count {
-        example::run(i - 2, i - 1, i);
-        if count - i < 3 {
-            break;
+    while i < usize::MAX - 3 {
+        if !has_argument(&rt, i) {
+            return;
         }
+        example::run(&rt, rt.stdout(), i - 2, i - 1, i);
         i += 3;
     }
 }
