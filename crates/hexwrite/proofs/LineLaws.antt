@@ -1,9 +1,9 @@
 -- Laws of a record's line: how long it is, and that a Line holds it whole.
-use mathlib.Core.Path.{◌≡◌, ap}
+use mathlib.Core.Path.{◌≡◌}
 use mathlib.Core.List.{List, [], ◌∷◌}
 use Prim.Native.Nat.{ℕ, ◌+◌, ◌*◌, ◌-◌, ◌≤◌}
 use native.Mathlib.Omega.{arith}
-use lib.ListN.{length, length-append, length-drop, take, drop, take-append-drop, replicate}
+use lib.ListN.{length, length-append, length-drop, take, drop}
 use lib.Seq.{length-take-le}
 use Rattle.text.specs.declared.line.Line.{Line}
 use Rattle.text.specs.Lines.{lined}
