@@ -1,4 +1,5 @@
 // What a program is given. The bytes that were read stand at the buffer's start.
+ghost use Rattle.std.specs.Prelude.{◌≡◌};
 ghost use Rattle.files.specs.Counts.{IsPrefixLen};
 
 use crate::say;
