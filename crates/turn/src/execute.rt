@@ -25,6 +25,7 @@ fn third(memory: &[u8; 256], pc: u8) -> u8
 }
 
 // d and s are the two halves of byte two, and at_d and at_s what their registers hold. A lone register is s.
+#[tactic(auto, unfolding(crate::specs::Meaning::fate_of))]
 pub fn execute(
     op: Op,
     second: u8,

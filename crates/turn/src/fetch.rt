@@ -10,6 +10,7 @@ use effect::{Fault, Turn};
 use op::operation::{Lookup, Op};
 use std::num::wrapping_add_u8;
 
+#[tactic(auto, unfolding(crate::specs::Turn::turn_of, instruction::specs::Decode::decoded_of))]
 pub fn turn(registers: &[u8; 16], memory: &[u8; 256], core: Core, input: &[u8], room: bool) -> Turn
     ensures { fate result ≡ turn_of (seen registers.now memory.now core input.now room) }
 {
