@@ -1,7 +1,7 @@
-# How the kit is used and a proved program is run; the scripts of this repository source it. Programs are for x86-64, and run under the Rattle kit's
-# own loader and C library; for another processor the kit has an emulator. The kit is found from where rt lies, as rt finds it.
+# How the kit is found and a program of crates/ is built; the scripts of this repository source it. The kit, and what it builds, is for x86-64 Linux.
+# The kit is found from where rt lies, as rt finds it.
 
-# Sets loader, libraries and emulator, or says what is missing and answers 2.
+# Sets kit, or says what is missing and answers 2.
 find_kit() {
     rt=$(command -v rt) || {
         echo "rt is not on PATH: install the Rattle kit, and put its bin folder there" >&2
@@ -11,30 +11,18 @@ find_kit() {
         link=$(readlink "$rt")
         case $link in /*) rt=$link ;; *) rt=$(dirname "$rt")/$link ;; esac
     done
-    kit=${RATTLE_HOME:-$(cd "$(dirname "$rt")/.." && pwd -P)}
-    toolchain=$kit/on/$(uname -m)/toolchain
-    libraries=$toolchain/lib
-    loader=$libraries/ld-linux-x86-64.so.2
-    emulator=$toolchain/bin/qemu-x86_64
-    [ -x "$emulator" ] || emulator=''
-    [ -f "$loader" ] || {
+    kit=$(cd "$(dirname "$rt")/.." && pwd -P)
+    [ "$(uname -m)" = x86_64 ] || {
         echo "the Rattle kit at $kit has nothing for this machine, $(uname -m)" >&2
         return 2
     }
 }
 
-# Runs a program that rt has built, after find_kit.
-run_program() { # PROGRAM [ARGUMENT..]
-    ${emulator:+"$emulator"} "$loader" --library-path "$libraries" "$@"
-}
+# Where a program lies once it is built, from the root of the repository. It is run as it is.
+program_of() { echo "crates/$1/out/$1"; } # NAME
 
-# Has rt write in memory what it needs for a moment only: thousands of small files for each check, which on a disk can take as long as the check
-# itself. Not where TMPDIR says otherwise, where there is little room, or where no program may be run.
-use_memory() {
-    [ -z "${TMPDIR:-}" ] && [ -w /dev/shm ] || return 0
-    grep -q '^[^ ]* /dev/shm tmpfs ' /proc/mounts || return 0
-    ! grep -q '^[^ ]* /dev/shm [^ ]* [^ ]*noexec' /proc/mounts || return 0
-    [ "$(df -Pk /dev/shm | awk 'NR == 2 { print $4 }')" -ge 4194304 ] || return 0
-    TMPDIR=/dev/shm
-    export TMPDIR
+# Has a program proved and built where it is not. rt builds one only where it is to run it, so it is run too, on no input and without arguments: every
+# program here takes that, and ends with status 0.
+build_program() { # ROOT NAME
+    (cd "$1/crates/$2" && rt run </dev/null && [ -f "out/$2" ])
 }
