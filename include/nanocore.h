@@ -1,5 +1,5 @@
-/* NanoCore for C: the proved machine, behind thirteen functions. Link the archive that `rt staticlib host` writes
-   (target/staticlib/libhost.a, for x86-64 Linux); examples/c shows how.
+/* NanoCore for C: the proved machine, behind thirteen functions. Link the archive that `rt lib` writes in crates/host
+   (crates/host/out/libhost.a, for x86-64 Linux); examples/c shows how.
 
    Every function answers on all bytes, lengths and numbers. What it answers is one of document 01's numbers, one of 19
    to 26, which came with Intel HEX, or 90. The values that come with a number go to values[0] and values[1], 0 for a

@@ -1,7 +1,7 @@
 /* listed: lists every program of up to three bytes by nanocore_list, and reads the text back by a reader that sees the
    text alone. The bytes read have to be the program; so no two of these programs list alike.
    Standard output gets one line, `listed N, read back otherwise M`. The exit status is 0 where M is 0 and 1 otherwise.
-   On x86-64 this takes three seconds; under an emulator it was not timed. */
+   This takes three seconds. */
 #include <stdint.h>
 #include <stdio.h>
 #include <string.h>

@@ -2,7 +2,7 @@
    The sixth part has to be 1 where these are the given bytes over the instruction's length, 0 where they are not, and 0
    for an invalid opcode.
    Standard output gets one line, `decoded N, plain P, disagree D`. The exit status is 0 where no triple disagrees and
-   1 otherwise. On x86-64 this takes a tenth of a second; under an emulator it was not timed. */
+   1 otherwise. This takes a tenth of a second. */
 #include <stdint.h>
 #include <stdio.h>
 #include <string.h>
