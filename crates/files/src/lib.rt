@@ -2,12 +2,12 @@
 // read is never taken for an empty one.
 #![tactic(auto)]
 
-ghost use Rattle.std.specs.Prelude.{◌≡◌, ◌+◌, ◌≤◌, length, drop};
+ghost use Rattle.std.specs.Prelude.{◌≡◌, ◌+◌, ◌<◌, ◌≤◌, ◌++◌, false, true, min, length, take, drop, OnOk, is_some};
+ghost use Rattle.std.specs.Io.KnownBytes.{Appends, Consumes, IsAtEnd};
 ghost use Rattle.files.specs.Counts.{IsPrefixLen};
 
 use std::fs;
 use std::io::{Error, ErrorKind, Read, Result, Write};
-use std::num::wrapping_add_usize;
 use std::rt::Files;
 use std::str::from_utf8;
 
@@ -29,7 +29,12 @@ pub fn open<R: Files>(rt: &R, path: &[u8]) -> Result<R::File> {
 
 // Reads until the buffer is full, the input ends or a read fails. The bytes stand at the buffer's start.
 pub fn read<R: Read>(file: &mut R, buffer: &mut [u8]) -> Got
-    ensures { IsPrefixLen result.count buffer.new }
+    ensures prefix_len { IsPrefixLen result.count buffer.new }
+    // Where it is known what there is to read, these are the next bytes of it.
+    ensures next { Consumes (R.remaining file.old) (R.remaining file.new) (take result.count buffer.new) }
+    // What does not fill the buffer is all that there was, unless a read failed.
+    ensures end { result.failed ≡ false → result.count < length buffer.new → IsAtEnd (R.remaining file.new) }
+    ensures reason { is_some result.reason ≡ result.failed }
 {
     let mut count: usize = 0;
     while count < buffer.len() {
@@ -58,6 +63,9 @@ pub fn read_some<R: Read>(file: &mut R, buffer: &mut [u8], most: usize) -> Got
     ensures prefix_len { IsPrefixLen result.count buffer.new }
     ensures count_le_most { result.count ≤ most }
     ensures buffer_unchanged { drop most buffer.new ≡ drop most buffer.old }
+    ensures next { Consumes (R.remaining file.old) (R.remaining file.new) (take result.count buffer.new) }
+    ensures end { result.failed ≡ false → result.count < min most (length buffer.new) → IsAtEnd (R.remaining file.new) }
+    ensures reason { is_some result.reason ≡ result.failed }
 {
     if most >= buffer.len() {
         return read(file, buffer);
@@ -68,7 +76,12 @@ pub fn read_some<R: Read>(file: &mut R, buffer: &mut [u8], most: usize) -> Got
 // One read, behind so many bytes that are there.
 fn read_more<R: Read>(file: &mut R, buffer: &mut [u8], from: usize) -> Got
     requires { from ≤ length buffer.old }
-    ensures { from + result.count ≤ length buffer.old }
+    ensures in_bounds { from + result.count ≤ length buffer.old }
+    ensures none { result.failed ≡ true → result.count ≡ 0 }
+    ensures before { take (from + result.count) buffer.new ≡ take from buffer.old ++ take result.count (drop from buffer.new) }
+    ensures next { Consumes (R.remaining file.old) (R.remaining file.new) (take result.count (drop from buffer.new)) }
+    ensures end { result.failed ≡ false → result.count ≡ 0 → from < length buffer.old → IsAtEnd (R.remaining file.new) }
+    ensures reason { is_some result.reason ≡ result.failed }
 {
     match file.read(&mut buffer[from..]) {
         Ok(count) => Got {
@@ -84,15 +97,19 @@ fn read_more<R: Read>(file: &mut R, buffer: &mut [u8], from: usize) -> Got
     }
 }
 
-// Reads to the end and keeps nothing.
-pub fn skip<R: Read>(file: &mut R) -> Got {
+// Reads to the end and keeps nothing. A count that is too large stops at the largest.
+pub fn skip<R: Read>(file: &mut R) -> Got
+    // None were read only where there were none, unless a read failed.
+    ensures none { result.failed ≡ false → result.count ≡ 0 → IsAtEnd (R.remaining file.old) }
+    ensures reason { is_some result.reason ≡ result.failed }
+{
     let mut space = [0u8; 65536];
     let buffer: &mut [u8] = &mut space;
     let mut count: usize = 0;
     // a proved loop has to end, and nothing says that a file does: so many turns no run uses up
     for _ in 0..u64::MAX {
         let got = read(file, buffer);
-        count = wrapping_add_usize(count, got.count);
+        count = count.saturating_add(got.count);
         if got.failed {
             return Got {
                 count: count,
@@ -112,7 +129,9 @@ pub fn skip<R: Read>(file: &mut R) -> Got {
 }
 
 // Writes so many bytes from the start on, all of them where there are no more, and answers whether it could, and why where it could not.
-pub fn write<W: Write>(file: &mut W, bytes: &[u8], count: usize) -> Result<()> {
+pub fn write<W: Write>(file: &mut W, bytes: &[u8], count: usize) -> Result<()>
+    ensures { OnOk result (Appends (W.contents file.old) (W.contents file.new) (take count bytes.now)) }
+{
     if count > bytes.len() {
         return file.write_all(bytes);
     }

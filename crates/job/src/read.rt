@@ -1,5 +1,5 @@
 // The rule from its file, the station's bytes from standard input.
-ghost use Rattle.std.specs.Prelude.{◌≡◌, ◌≤◌, drop};
+ghost use Rattle.std.specs.Prelude.{◌≡◌, ◌≤◌, take, drop, IfSome};
 ghost use Rattle.files.specs.Counts.{IsPrefixLen};
 
 use crate::arguments;
@@ -69,7 +69,9 @@ fn read_opened<F: Read>(
     limit: u16,
     buffer: &mut [u8],
 ) -> Job
-    ensures { IsPrefixLen result.length buffer.new }
+    ensures prefix_len { IsPrefixLen result.length buffer.new }
+    // Where it is known what the file has, a rule that is found is all of that.
+    ensures whole { result.found ≡ Found.Rule → IfSome (F.remaining file.old) (λ xs. take result.length buffer.new ≡ xs) }
 {
     let got = files::read(file, &mut *buffer);
     if let Some(reason) = got.reason {
@@ -92,7 +94,8 @@ fn read_opened<F: Read>(
 }
 
 fn without(found: Found) -> Job
-    ensures { result.length ≡ 0 }
+    ensures found { result.found ≡ found }
+    ensures empty { result.length ≡ 0 }
 {
     Job {
         found: found,
