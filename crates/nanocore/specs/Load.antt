@@ -1,6 +1,6 @@
 -- "Load copies the bytes from a start address (0..255, in the listing too) and sets pc to it; it does not clear halted, count, registers or
 -- the rest of memory." "11: start + length above 256", with length and start; "11 loads nothing".
-use Rattle.core.specs.Prelude.{ℕ, ◌+◌, Bool, true, false, List, [], ◌∷◌, ◌++◌, length, take, drop, nat_lt}
+use Rattle.std.specs.Prelude.{ℕ, ◌+◌, Bool, true, false, List, [], ◌∷◌, ◌++◌, length, take, drop, nat_lt}
 use Rattle.nanocore.specs.declared.machine.Machine.{Machine}
 
 pub record Loading : Type 0 where

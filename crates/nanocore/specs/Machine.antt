@@ -1,6 +1,6 @@
 -- "Sixteen registers R0..R15 and 256 memory bytes, all 0 when fresh; pc 0; sp 0xFF; flags 0; halted no; count 0; limit 1024
 -- (any 0..65,535)."
-use Rattle.core.specs.Prelude.{ℕ, false, replicate}
+use Rattle.std.specs.Prelude.{ℕ, false, replicate}
 use Rattle.nanocore.specs.declared.machine.Machine.{Machine}
 
 abbrev pub fresh : Machine

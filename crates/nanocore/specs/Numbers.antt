@@ -1,5 +1,5 @@
 -- "Numbers that come back": the paper's number and values of each case of what step, run, load and transfer answer.
-use Rattle.core.specs.Prelude.{ℕ, List, [], ◌∷◌}
+use Rattle.std.specs.Prelude.{ℕ, List, [], ◌∷◌}
 use Rattle.effect.specs.Numbers.{fault_number}
 use Rattle.nanocore.specs.declared.answer.LoadAnswer.{LoadAnswer}
 use Rattle.nanocore.specs.declared.answer.LoadAnswer.TheVariants.{Loaded, TooLong}

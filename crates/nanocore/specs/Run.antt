@@ -1,6 +1,6 @@
 -- "Run steps until halted. Before each step, if not halted and the count is at or above the limit, it refuses. On a halted machine it answers 1
 -- at once."
-use Rattle.core.specs.Prelude.{ℕ, zero, suc, ◌-◌, Bool, true, false, List, [], ◌∷◌, ◌==◌, nat_le}
+use Rattle.std.specs.Prelude.{ℕ, zero, suc, ◌-◌, Bool, true, false, List, [], ◌∷◌, ◌==◌, nat_le}
 use Rattle.nanocore.specs.Step.{Situation, Answered, refused_at, step_of}
 
 -- "0: stepped": the one answer after which there is a next step

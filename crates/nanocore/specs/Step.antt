@@ -1,5 +1,5 @@
 -- A step: "tests 2, 3, the instruction's own fault (4 to 8), then 9. Each is given exactly when its line holds and no earlier one does."
-use Rattle.core.specs.Prelude.{ℕ, ◌+◌, Bool, true, false, List, [], ◌∷◌, length, ◌==◌, nat_lt, slice_set}
+use Rattle.std.specs.Prelude.{ℕ, ◌+◌, Bool, true, false, List, [], ◌∷◌, length, ◌==◌, nat_lt, slice_set}
 use Rattle.effect.specs.declared.Effect.{Effect}
 use Rattle.effect.specs.declared.Write.{Write}
 use Rattle.effect.specs.declared.Write.TheVariants.{Nothing, Register, Memory, Output}

@@ -1,6 +1,6 @@
 -- "A transfer copies marked bytes into a machine's memory, no more." "19: a lent image or its marks not 256 long"; "19 comes before every
 -- other and changes nothing".
-use Rattle.core.specs.Prelude.{ℕ, Bool, true, false, ◌&&◌, List, [], ◌∷◌, length, ◌==◌}
+use Rattle.std.specs.Prelude.{ℕ, Bool, true, false, ◌&&◌, List, [], ◌∷◌, length, ◌==◌}
 use Rattle.fields.specs.Overlay.{overlaid}
 use Rattle.nanocore.specs.declared.machine.Machine.{Machine}
 

@@ -1,6 +1,6 @@
 -- So many steps, one after the other, while each answers 0: what the one private loop behind step and run promises. Whoever reads what step and
 -- run are need not read this.
-use Rattle.core.specs.Prelude.{ℕ, zero, suc, Bool, false, List, [], ◌∷◌}
+use Rattle.std.specs.Prelude.{ℕ, zero, suc, Bool, false, List, [], ◌∷◌}
 use Rattle.turn.specs.Turn.{turn_of}
 use Rattle.effect.specs.declared.moves.Core.{Core}
 use Rattle.nanocore.specs.declared.answer.RunAnswer.{RunAnswer}

@@ -1,5 +1,5 @@
 // Programs into memory.
-ghost use Rattle.core.specs.Prelude.{◌≡◌};
+ghost use Rattle.std.specs.Prelude.{◌≡◌};
 ghost use Rattle.nanocore.specs.Load.{load_of};
 ghost use Rattle.nanocore.specs.Numbers.{loading};
 

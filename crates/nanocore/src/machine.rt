@@ -1,5 +1,5 @@
 // The machine is a plain record: each operation takes the machine and hands the next machine back.
-ghost use Rattle.core.specs.Prelude.{◌≡◌};
+ghost use Rattle.std.specs.Prelude.{◌≡◌};
 ghost use Rattle.byte.specs.Flags.{set_flag, clear_flag, get_flag, zn};
 ghost use Rattle.nanocore.specs.Machine.{fresh, with_flags};
 

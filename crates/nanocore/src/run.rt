@@ -1,5 +1,5 @@
 // Until halted, refused or at the limit. A refused run leaves the machine as its last completed step left it.
-ghost use Rattle.core.specs.Prelude.{◌≡◌};
+ghost use Rattle.std.specs.Prelude.{◌≡◌};
 ghost use Rattle.nanocore.specs.Numbers.{running};
 ghost use Rattle.nanocore.specs.Run.{run_of};
 ghost use Rattle.nanocore.specs.Step.{situated};

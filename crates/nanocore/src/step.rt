@@ -1,5 +1,5 @@
 // One instruction. A refused step leaves machine, input place and output as found.
-ghost use Rattle.core.specs.Prelude.{◌≡◌, false, nat_lt};
+ghost use Rattle.std.specs.Prelude.{◌≡◌, false, nat_lt};
 ghost use Rattle.nanocore.specs.Machine.{most_count};
 ghost use Rattle.nanocore.specs.Numbers.{stepping};
 ghost use Rattle.nanocore.specs.Step.{situated, step_of};

@@ -1,5 +1,5 @@
 // The marked bytes of an image into memory.
-ghost use Rattle.core.specs.Prelude.{◌≡◌};
+ghost use Rattle.std.specs.Prelude.{◌≡◌};
 ghost use Rattle.nanocore.specs.Numbers.{transferring};
 ghost use Rattle.nanocore.specs.Transfer.{transfer_of};
 

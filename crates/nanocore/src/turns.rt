@@ -1,6 +1,6 @@
 // Up to so many instructions, one after the other. Registers and memory lie in local arrays, so that an instruction writes the one place that it
 // alters; the machine record is made once, at the end.
-ghost use Rattle.core.specs.Prelude.{◌≡◌, ◌+◌, ◌≤◌};
+ghost use Rattle.std.specs.Prelude.{◌≡◌, ◌+◌, ◌≤◌};
 ghost use Rattle.nanocore.specs.Machine.{most_count};
 ghost use Rattle.nanocore.specs.Step.{situated};
 ghost use Rattle.nanocore.specs.Turns.{awake, ended_with, turns_of};

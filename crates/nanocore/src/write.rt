@@ -1,5 +1,5 @@
 // Each of the three places takes what an effect writes there, and keeps the rest.
-ghost use Rattle.core.specs.Prelude.{◌≡◌, ◌<◌, true, length};
+ghost use Rattle.std.specs.Prelude.{◌≡◌, ◌<◌, true, length};
 ghost use Rattle.effect.specs.Effects.{prints};
 ghost use Rattle.nanocore.specs.Step.{registers_after, memory_after, output_after, written_after};
 
