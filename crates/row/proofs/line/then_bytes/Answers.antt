@@ -1,5 +1,5 @@
 -- Each turn says the next of the few bytes; at the end all are said.
-use Rattle.std.proofs.Common.{◌≡◌, sym, ◌∙◌, ap, ℕ, ◌+◌, ◌≤◌, List, length, get_or, take, drop, arith}
+use Rattle.std.proofs.Common.{◌≡◌, sym, ◌∙◌, ap, ℕ, ◌+◌, ◌≤◌, List, length, get_or, take, drop, arith, rules}
 use Prim.Native.Nat.{min}
 use Rattle.text.specs.declared.line.Line.{Line}
 use Rattle.text.specs.Lines.{appended}
@@ -19,7 +19,7 @@ loop-at-preserved c =
           l.said
           (then (byte_text (get_or bytes l.at 0)))
           (spaced byte_text (drop (l.at + 1) (take few bytes)))
-          c.then_byte-said.ensures
+          (search rules)
           ∙ sym (ap (appended l.said) next)
           ∙ l.invariant.1,
     )

@@ -1,5 +1,5 @@
 -- The enum's case, and the test, pick the definition's; the second piece is put behind the first.
-use Rattle.std.proofs.Common.{◌≡◌, sym, ◌∙◌, ap, ℕ, List, take}
+use Rattle.std.proofs.Common.{◌≡◌, sym, ◌∙◌, ap, ℕ, List, take, rules}
 use Rattle.op.specs.Operations.{form_of, length_of}
 use Rattle.names.specs.Names.{name_of}
 use Rattle.text.specs.declared.line.Line.{Line}
@@ -34,4 +34,4 @@ returns-else-plain c =
 pub returns-in-Alone : goal.returns-in-Alone
 returns-in-Alone c =
     said c.args.line c.args.bytes.now c.in-Alone.is
-    (c.then_byte.ensures ∙ onto c.args.line (codes " .DB") (then (byte_text c.in-Alone.b)) c.text-in-Alone.ensures)
+    (search rules ∙ onto c.args.line (codes " .DB") (then (byte_text c.in-Alone.b)) c.text-in-Alone.ensures)
