@@ -3,7 +3,7 @@ use mathlib.Core.Path.{◌≡◌, refl, ◌∙◌, ap, sym}
 use mathlib.Core.List.{List, ◌++◌, append_assoc, append-nil}
 use Prim.Native.Nat.{ℕ, ◌≤◌}
 use native.Mathlib.Omega.{arith}
-use lib.ListN.{length, drop, length-append, drop_of_length-le}
+use lib.ListN.{length, length-append, drop_of_length-le}
 use Rattle.fields.specs.Lay.{laid}
 use Rattle.fields.proofs.LaidLaws.{laid_next, laid_whole}
 use Rattle.nanocore.specs.declared.machine.Machine.{Machine}

@@ -1,5 +1,5 @@
 -- The record by which a machine crosses to another language: 296 bytes.
-use Rattle.std.specs.Prelude.{ℕ, ◌%◌, Bool, ◌&&◌, List, [], ◌∷◌, ◌++◌, eqb, length}
+use Rattle.std.specs.Prelude.{ℕ, ◌%◌, Bool, ◌&&◌, List, ◌∷◌, ◌++◌, eqb, length}
 use Rattle.byte.specs.Flags.{bit}
 use Rattle.fields.specs.Apart.{alike}
 use Rattle.fields.specs.Read.{byte_at, stretch}

@@ -12,6 +12,7 @@ use nanocore::machine::Machine;
 pub const LENGTH: usize = 296;
 
 // Whether the bytes are what this build writes of some machine.
+#[tactic(auto, unfolding(crate::specs::Record::is_record))]
 pub fn is_record(bytes: &[u8]) -> bool
     ensures { result ≡ is_record bytes.now }
 {
