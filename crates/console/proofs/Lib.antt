@@ -1,4 +1,1 @@
 pub mod Agrees
-mod Behind
-mod Taken
-mod Walk
