@@ -1,5 +1,5 @@
 -- The case of a step, a run or a load, as oracle/FORMAT.md lays it out.
-use Rattle.std.specs.Prelude.{ℕ, ◌+◌, ◌*◌, ◌%◌, Bool, true, false, cond, not, ◌&&◌, List, [], ◌∷◌, eqb, leb, length, take, replicate}
+use Rattle.std.specs.Prelude.{ℕ, ◌+◌, ◌*◌, ◌%◌, Bool, true, cond, ◌&&◌, List, [], ◌∷◌, eqb, leb, length, take, replicate}
 use Rattle.fields.specs.Lay.{changed, laid}
 use Rattle.fields.specs.Read.{byte_at, word_at, part, stretch}
 use Rattle.nanocore.specs.declared.machine.Machine.{Machine}
@@ -11,7 +11,7 @@ use Rattle.replay.specs.declared.case.Lent.{Lent}
 use Rattle.replay.specs.declared.case.Shape.{Shape}
 use Rattle.compare.specs.declared.verdict.Part.TheVariants.{Number, Register, Memory, Output}
 use Rattle.compare.specs.declared.verdict.Verdict.{Verdict}
-use Rattle.compare.specs.declared.verdict.Verdict.TheVariants.{Same, Torn, Unfit}
+use Rattle.compare.specs.declared.verdict.Verdict.TheVariants.{Torn, Unfit}
 use Rattle.answers.specs.Answer.{answered, answer_of}
 use Rattle.compare.specs.Verdict.{parted, or_else}
 

@@ -35,6 +35,7 @@ pub struct Lent {
 }
 
 // Whether the machine answers as the case says, in everything that a caller sees.
+#[tactic(auto, using(crate::proofs::CaseLaws::fits_room), unfolding(crate::specs::Case::verdict_of))]
 pub fn judge(kind: Kind, case: &[u8]) -> Verdict
     ensures { result ≡ verdict_of kind case.now }
 {
@@ -49,6 +50,7 @@ pub fn judge(kind: Kind, case: &[u8]) -> Verdict
     }
 }
 
+#[tactic(auto, unfolding(crate::specs::Case::shape_of))]
 fn measure(case: &[u8]) -> Shape
     ensures value { result ≡ shape_of case.now }
     ensures le_input { 48 ≤ result.input }
@@ -68,6 +70,7 @@ fn measure(case: &[u8]) -> Shape
     }
 }
 
+#[tactic(auto, unfolding(crate::specs::Case::fits))]
 fn fits(kind: Kind, case: &[u8]) -> bool
     ensures { result ≡ fits kind case.now }
 {
@@ -129,6 +132,7 @@ fn replay(kind: Kind, case: &[u8], shape: Shape) -> Verdict
 }
 
 // Lets the machine answer, with a blank output buffer, and compares.
+#[tactic(auto, unfolding(crate::specs::Case::played))]
 fn play(
     kind: Kind,
     machine: Machine,
@@ -178,6 +182,7 @@ fn put_beside(
 }
 
 // The memory that a case's changes are laid over.
+#[tactic(auto, unfolding(crate::specs::Case::zeros))]
 fn zeros() -> [u8; 256]
     ensures { result ≡ zeros }
 {
@@ -185,6 +190,7 @@ fn zeros() -> [u8; 256]
 }
 
 // The output buffer of every case beforehand.
+#[tactic(auto, unfolding(crate::specs::Case::pattern))]
 fn blank() -> [u8; ROOM]
     ensures value { result ≡ pattern }
     ensures value_2 { 4096 ≡ length result }
@@ -192,6 +198,7 @@ fn blank() -> [u8; ROOM]
     [PATTERN; ROOM]
 }
 
+#[tactic(auto, unfolding(crate::specs::Case::compared))]
 fn compare(ours: Answer, theirs: Answer, output: &[u8], expected: &[u8]) -> Verdict
     ensures { result ≡ compared ours theirs output.now expected.now }
 {
