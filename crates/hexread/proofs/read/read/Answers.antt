@@ -1,4 +1,5 @@
--- The copy begins as the image and the found marks as clear, so the lines do to them what the text does; then they are laid back, or dropped.
+-- The copy begins as the image and the found marks as clear, so the lines do to them what the text does.
+-- Then they are laid back, or dropped.
 use Rattle.std.proofs.Common.{◌∙◌}
 use Rattle.hexread.proofs.ReadLaws.{no_image, no_marks, read_onto, read_back}
 use Rattle.hexread.proofs.read.read.Goals as goal

@@ -1,4 +1,5 @@
--- What is measured and the length of what is left make the whole length; a record has at most 14 bytes for each byte of its run.
+-- What is measured and the length of what is left make the whole length.
+-- A record has at most 14 bytes for each byte of its run.
 use Rattle.std.proofs.Common.{◌≡◌, ◌+◌, ◌*◌, ◌-◌, ◌≤◌, length}
 use Rattle.hexwrite.specs.Writer.{text_of}
 use Rattle.hexwrite.proofs.WalkLaws.{rest}
