@@ -32,6 +32,7 @@ pub enum Line {
 }
 
 // Reads a line without its LF, and replays its case. The case's bytes are put in the buffer.
+#[tactic(auto, unfolding(crate::specs::Line::line_of))]
 pub fn replay_line(text: &[u8], buffer: &mut [u8]) -> Line
     ensures { told result buffer.new ≡ line_of text.now buffer.old }
 {
@@ -58,6 +59,7 @@ pub fn word_end(text: &[u8]) -> usize
     i
 }
 
+#[tactic(auto, using(names::proofs::NameLaws::same_text_lem), unfolding(crate::specs::Line::word_of))]
 pub fn first_word(text: &[u8]) -> Word
     ensures { result ≡ word_of text.now }
 {

@@ -9,6 +9,7 @@ use nanocore::machine::Machine;
 use op::operation::{Lookup, Op};
 
 // A byte: the operation, its byte, length and name.
+#[tactic(auto, unfolding(crate::specs::Table::opcode_verdict))]
 pub fn opcode(case: &[u8]) -> Verdict
     ensures { result ≡ opcode_verdict case.now }
 {
@@ -20,6 +21,7 @@ pub fn opcode(case: &[u8]) -> Verdict
 }
 
 // A text: the operation that it names.
+#[tactic(auto, unfolding(crate::specs::Table::name_verdict))]
 pub fn name(case: &[u8]) -> Verdict
     ensures { result ≡ name_verdict case.now }
 {
@@ -33,6 +35,7 @@ pub fn name(case: &[u8]) -> Verdict
 }
 
 // Flags and a byte: set, cleared, asked for, and updated by the byte as a result.
+#[tactic(auto, unfolding(crate::specs::Table::flags_verdict))]
 pub fn flags(case: &[u8]) -> Verdict
     ensures { result ≡ flags_verdict case.now }
 {
@@ -43,6 +46,7 @@ pub fn flags(case: &[u8]) -> Verdict
     parted(Part::Number, &ours, &case[2..])
 }
 
+#[tactic(auto, using(names::proofs::NameLaws::name_short))]
 fn opcode_answer(value: u8) -> [u8; 9]
     ensures { result ≡ opcode_answer value }
 {
