@@ -10,6 +10,10 @@ use Rattle.front.specs.Walk.{walked}
 use Rattle.front.proofs.WalkLaws.{walk_none, walk_turn}
 use Rattle.finding.specs.Found.{Found, found_at, plain_in}
 use Rattle.finding.specs.Line.{line_of, lines_of}
+use Rattle.finding.proofs.RoomLaws.{found_holds}
+use Rattle.text.specs.declared.line.Line.{Line}
+use Rattle.text.specs.Lines.{lined}
+use Rattle.spelling.specs.Check.{found}
 
 -- what is said and counted of both parts of a list
 pub lines_append : (a b : List Found) → lines_of (a ++ b) ≡ lines_of a ++ lines_of b
@@ -46,3 +50,11 @@ module _ (rule : List ℕ) (at : ℕ) (h : at < length rule) {next : ℕ} (e : n
 
   pub plain_turn : plain_in (rest rule at) ≡ plain_in (here rule at) + plain_in (rest rule next)
   plain_turn = ap plain_in turn ∙ plain_append (here rule at) (rest rule next)
+
+  -- a line more is said; what is left is shorter by it
+  pub said_on :
+      (said : ℕ) {line : Line} → line ≡ lined (lines_of (here rule at)) →
+      said + length (lines_of (rest rule at)) ≡ length (lines_of (found rule)) →
+      said + line.length + length (lines_of (rest rule next)) ≡ length (lines_of (found rule))
+  said_on said line all =
+      omega (arith, simp length-append at (ap length lines_turn), (found_holds at (drop at rule) line).size, all)
