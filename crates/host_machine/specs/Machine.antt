@@ -1,6 +1,5 @@
 -- A machine that crosses as its record. Bytes that are no machine of this build are answered 90, and nothing is changed.
 use Rattle.std.specs.Prelude.{ℕ, cond, ◌&&◌, List, eqb, length}
-use Rattle.nanocore.specs.declared.machine.Machine.{Machine}
 use Rattle.nanocore.specs.Load.{Loading, load_of}
 use Rattle.nanocore.specs.Machine.{fresh}
 use Rattle.nanocore.specs.Run.{run_of}
