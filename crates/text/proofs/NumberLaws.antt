@@ -6,9 +6,9 @@ use Prim.Native.Nat.{ℕ, ◌+◌, ◌*◌, ◌-◌, ◌≤◌, ◌<◌}
 use native.Mathlib.Numerals.{add-one}
 use native.Mathlib.Omega.{arith}
 use borrow.Author.Tests.{lt-leb, le-leb, eq-eqb, ne_eqb}
-use lib.ListN.{length, get_or, drop}
+use lib.ListN.{length, get_or, drop, drop_of_length-le}
 use lib.Seq.{drop-cons}
-use Rattle.text.specs.declared.number.Numeral.TheVariants.{NoNumber}
+use Rattle.text.specs.declared.number.Numeral.TheVariants.{Number, NoNumber}
 use Rattle.text.specs.Decimal.{value_from, numeral}
 
 module _ (text : List ℕ) (v i : ℕ) (h : i < length text) where
@@ -34,6 +34,11 @@ module _ (text : List ℕ) (v i : ℕ) (h : i < length text) where
   unfolding value_from
   value_much low high many = rw (drop-cons text i 0 h, le-leb _ _ low, le-leb _ _ high, lt-leb _ _ many)
 
+-- no byte is left
+pub value_end : (text : List ℕ) (v i : ℕ) → length text ≤ i → value_from v (drop i text) ≡ Number v
+unfolding value_from
+value_end text v i h = rw (drop_of_length-le text h)
+
 pub numeral_none : (text : List ℕ) → length text ≡ 0 → numeral text ≡ NoNumber
 unfolding numeral
 numeral_none [] h = refl
@@ -56,3 +61,8 @@ unfolding numeral
 numeral_more [] h other = absurd (omega arith)
 numeral_more (c ∷ []) h other = absurd (omega arith)
 numeral_more (c ∷ d ∷ cs) h other = rw (ne_eqb _ _ other)
+
+-- what the tests of a text's beginning say, and what each turn of its digits does
+pub ruleset number_laws = (numeral_none, numeral_zero, numeral_one, numeral_more)
+
+pub ruleset digit_laws = (value_digit, value_low, value_high, value_much, value_end)

@@ -9,6 +9,7 @@ pub enum Numeral {
 }
 
 // A number of 0 to 65,535 without leading zeros.
+#[tactic(auto, using(crate::proofs::NumberLaws::number_laws))]
 pub fn number(text: &[u8]) -> Numeral
     ensures { result ≡ numeral text.now }
 {
@@ -25,6 +26,7 @@ pub fn number(text: &[u8]) -> Numeral
 }
 
 // The number that the digits make.
+#[tactic(auto, using(crate::proofs::NumberLaws::digit_laws))]
 fn value(text: &[u8]) -> Numeral
     ensures { result ≡ value_from 0 text.now }
 {
