@@ -9,6 +9,6 @@ pub mod machine;
 // An instruction, decoded and encoded.
 pub mod instructions;
 // A program in words, and the labels of a source.
-pub mod text;
+pub mod texts;
 // An image and its marks, from Intel HEX and as Intel HEX.
 pub mod hex;
