@@ -1,5 +1,5 @@
 -- A halted machine and one at its limit are handed back; any other takes a step.
-use Rattle.std.proofs.Common.{sym, arith}
+use Rattle.std.proofs.Common.{sym, arith, rules}
 use Rattle.nanocore.specs.Step.{situated}
 use Rattle.trace.proofs.LookCases.{look_halted, look_full, look_stepped}
 use Rattle.trace.proofs.look.look.Goals as goal
@@ -12,7 +12,7 @@ returns-then-machine c =
 pub returns-then-limit-count : goal.returns-then-limit-count
 returns-then-limit-count c =
     let a = c.args in
-    sym (look_full _ (situated a.machine a.place a.output.now a.written) c.if-machine.false (omega arith))
+    sym (look_full _ (situated a.machine a.place a.output.now a.written) (search rules) (omega arith))
 
 pub returns : goal.returns
 returns c =
