@@ -44,6 +44,7 @@ struct Stand {
     labels: Labels,
 }
 
+#[tactic(auto, unfolding(crate::specs::Pass::mapping_of))]
 pub fn map_labels(source: &[u8]) -> Mapped
     ensures result_value { mapping result ≡ mapping_of source.now }
     ensures count_bound { result.labels.count ≤ 64 }
