@@ -1,4 +1,5 @@
--- What is measured and the length of what is left make the whole length; a line has at most 64 bytes, and stands for one byte at least.
+-- What is measured and the length of what is left make the whole length; a line has at most 64 bytes, and stands for
+-- one byte at least.
 use Rattle.std.proofs.Common.{◌≡◌, ◌+◌, ◌*◌, ◌-◌, ◌≤◌, length}
 use Rattle.front.specs.Listed.{listed}
 use Rattle.listing.proofs.WalkLaws.{rest}

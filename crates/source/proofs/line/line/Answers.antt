@@ -1,4 +1,5 @@
--- What is left of a stretch of the raw line is a stretch of the raw line, and begins where its first byte besides blanks stands.
+-- What is left of a stretch of the raw line is a stretch of the raw line, and begins where its first byte besides
+-- blanks stands.
 use Rattle.std.proofs.Common.{◌≡◌, sym, ◌∙◌, ap, ◌+◌, ◌-◌, take, drop, arith}
 use Rattle.scan.specs.declared.class.Class.TheVariants.{Solid}
 use Rattle.source.specs.Line.{line_of, trimmed, cut}

@@ -1,4 +1,5 @@
--- The two tests are the definition's, in its order, and pick its case; the last line, laid behind the others, makes the whole text.
+-- The two tests are the definition's, in its order, and pick its case; the last line, laid behind the others, makes
+-- the whole text.
 use Rattle.std.proofs.Common.{◌≡◌, sym, ◌∙◌, ap, ℕ, ◌+◌, ◌<◌, ◌≤◌, List, [], ◌∷◌, ◌++◌, length, drop, arith, length-append, lt-ltb, le-ltb}
 use native.Mathlib.Nat.{zero-add}
 use Rattle.std.proofs.Math.Seq.{length-take-le}

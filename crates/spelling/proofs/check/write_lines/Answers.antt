@@ -1,4 +1,5 @@
--- The line that was found is laid whole, and what is left is laid behind it; nothing wraps, since there is no more than fits.
+-- The line that was found is laid whole, and what is left is laid behind it; nothing wraps, since there is no more
+-- than fits.
 use Rattle.std.proofs.Common.{sym, ◌∙◌, ap, drop, arith}
 use Rattle.std.proofs.Math.Seq.{length-take-le}
 use Rattle.fields.specs.Lay.{laid}

@@ -1,4 +1,5 @@
--- The slice is all that is left of the rule, so what its bytes begin with stands at the place; its case and the test pick what is said of it.
+-- The slice is all that is left of the rule, so what its bytes begin with stands at the place; its case and the test
+-- pick what is said of it.
 use Rattle.std.proofs.Common.{◌≡◌, sym, ◌∙◌, ap, ℕ, ◌+◌, ◌-◌, ◌<◌, ◌≤◌, List, length, take, drop, arith, length-drop}
 use Rattle.std.proofs.Math.Seq.{take_all}
 use Rattle.front.specs.declared.front.Front.{Front}
