@@ -1,5 +1,5 @@
-// What the programs read and write, over std's readers and writers. A read that fails is told apart from an end: a rule
-// or a reading that could not be read is never taken for an empty one.
+// What the programs read and write, over std's readers and writers. A read that fails is told apart from an end: a rule or a reading that could not be
+// read is never taken for an empty one.
 #![tactic(auto)]
 
 ghost use Rattle.std.specs.Prelude.{◌≡◌, ◌+◌, ◌<◌, ◌≤◌, ◌++◌, false, true, min, length, take, drop, OnOk, is_some};
@@ -128,8 +128,7 @@ pub fn skip<R: Read>(file: &mut R) -> Got
     }
 }
 
-// Writes so many bytes from the start on, all of them where there are no more, and answers whether it could, and why
-// where it could not.
+// Writes so many bytes from the start on, all of them where there are no more, and answers whether it could, and why where it could not.
 pub fn write<W: Write>(file: &mut W, bytes: &[u8], count: usize) -> Result<()>
     ensures { OnOk result (Appends (W.contents file.old) (W.contents file.new) (take count bytes.now)) }
 {

@@ -1,11 +1,11 @@
 // What a program is given. The bytes that were read stand at the buffer's start.
-ghost use Rattle.std.specs.Prelude.{◌≡◌, false, take, IfSome};
+ghost use Rattle.std.specs.Prelude.{◌≡◌};
 ghost use Rattle.files.specs.Counts.{IsPrefixLen};
 
 use crate::say;
 use files::Got;
 use std::env::FillError;
-use std::io::{Error, ErrorKind, Read, Result};
+use std::io::{Error, ErrorKind, Result};
 use std::rt::{Env, Files, Stderr, Stdin};
 
 // As much as fits. Where a read failed, it was said.
@@ -40,23 +40,16 @@ pub fn whole_argument<R: Env + Files>(rt: &R, i: usize, buffer: &mut [u8]) -> Go
     ensures { IsPrefixLen result.count buffer.new }
 {
     match open_argument(rt, i) {
-        Ok(mut file) => whole(&mut file, buffer),
+        Ok(mut file) => {
+            let got = files::read(&mut file, buffer);
+            let rest = files::skip(&mut file);
+            Got {
+                count: got.count,
+                failed: got.failed || rest.count > 0,
+                reason: got.reason,
+            }
+        }
         Err(reason) => unread(reason),
-    }
-}
-
-// A file to its end. One that does not fit, or of which that cannot be told, counts as failed.
-fn whole<F: Read>(file: &mut F, buffer: &mut [u8]) -> Got
-    ensures prefix_len { IsPrefixLen result.count buffer.new }
-    // Where it is known what the file has, this is all of it.
-    ensures whole { result.failed ≡ false → IfSome (F.remaining file.old) (λ xs. take result.count buffer.new ≡ xs) }
-{
-    let got = files::read(file, buffer);
-    let rest = files::skip(file);
-    Got {
-        count: got.count,
-        failed: got.failed || rest.failed || rest.count > 0,
-        reason: got.reason,
     }
 }
 
