@@ -1,13 +1,15 @@
 #!/usr/bin/env python3
-"""Brings this repository's own definitions and lemmas to the spelling of today's Rattle. It was run once, at the top, right behind the kit's port.py.
+"""Brings this repository's own definitions and lemmas to the spelling of today's Rattle. It was run once, at the top,
+right behind the kit's port.py (docs/PORT.md).
 
 usage: python3 tools/respell.py
 
-What is declared in crates/*/specs and crates/*/proofs with a capital or a dash inside its name gets snake case: `setFlag` becomes `set_flag`, the lemma
-`fault-high` `fault_high`. A lemma whose name would then be a definition's gets `_lem` behind it. Names that the sources brought in as `M·x`, since a function
-was called `x` too, are `x` again, as today a clause does not see functions. The crate `hex` becomes `hexverdict`, since the kit has a library of that name.
-Strings are left alone, and so is the code of sources: only their clauses have such names. It turns .antt, .rt and .edit files, and names between backticks in
-README.md and docs/*.md. It prints each new name, and stops where two would fall together.
+What is declared in crates/*/specs and crates/*/proofs with a capital or a dash inside its name gets snake case: `setFlag`
+becomes `set_flag`, the lemma `fault-high` `fault_high`. A lemma whose name would then be a definition's gets `_lem` behind
+it. Names that the sources brought in as `M·x`, since a function was called `x` too, are `x` again, as today a clause does
+not see functions. The crate `hex` becomes `hexverdict`, since the kit has a library of that name. Strings are left alone,
+and so is the code of sources: only their clauses have such names. It turns .antt, .rt and .edit files, and names between
+backticks in README.md and docs/*.md. It prints each new name, and stops where two would fall together.
 """
 
 import os
