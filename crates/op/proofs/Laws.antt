@@ -8,10 +8,10 @@ use native.Mathlib.Nat.{le_of_suc-le-suc, not-suc-le-zero}
 use borrow.Author.Tests.{ltb-true}
 use lib.Dec.{ltb}
 use mathlib.Core.Bool.{true}
+use Rattle.std.specs.Prelude.{Some, None}
 use lib.ListN.{length, get_or, drop}
 use Rattle.op.specs.declared.form.Form.{Form}
 use Rattle.op.specs.declared.operation.Op.{Op}
-use Rattle.op.specs.declared.operation.Lookup.TheVariants.{Found, Unknown}
 use Rattle.op.specs.Operations.{ops, op_at, decoded, byte_of, length_of}
 
 -- a family at each operation of a list
@@ -84,14 +84,14 @@ none_below zero x h = omega arith
 none_below (suc n) x h = omega (arith, none_below n x h.0)
 
 -- no operation at a byte from the list's length on
-pub past : (os : List Op) (b : ℕ) → length os ≤ b → Unknown ≡ op_at os b
+pub past : (os : List Op) (b : ℕ) → length os ≤ b → None ≡ op_at os b
 past [] b h = refl
 past (o ∷ os) zero h = absurd (not-suc-le-zero h)
 past (o ∷ os) (suc b) h = past os b (le_of_suc-le-suc h)
 
 -- decoding the byte of an operation gives the operation, and its byte is below 40
-pub decoded_byte : (o : Op) → decoded (byte_of o) ≡ Found o
-decoded_byte = agree (λ o. decoded (byte_of o)) Found refl
+pub decoded_byte : (o : Op) → decoded (byte_of o) ≡ Some o
+decoded_byte = agree (λ o. decoded (byte_of o)) Some refl
 
 pub byte_below : (o : Op) → byte_of o < 40
 byte_below o = ltb-true (byte_of o) 40 (agree (λ o. ltb (byte_of o) 40) (λ o. true) refl o)
@@ -101,7 +101,7 @@ abbrev numbers : ℕ → List Op → List ℕ
 numbers n [] = []
 numbers n (o ∷ os) = n ∷ numbers (suc n) os
 
-in_order : (os : List Op) (n b : ℕ) (o : Op) → map byte_of os ≡ numbers n os → op_at os b ≡ Found o → byte_of o ≡ n + b
+in_order : (os : List Op) (n b : ℕ) (o : Op) → map byte_of os ≡ numbers n os → op_at os b ≡ Some o → byte_of o ≡ n + b
 in_order [] n b o e h = cc
 in_order (p ∷ os) n zero o e h =
     let first : byte_of p ≡ n = ap (λ l. get_or l 0 n) e in
@@ -109,7 +109,7 @@ in_order (p ∷ os) n zero o e h =
     omega (arith, first, ap byte_of same)
 in_order (p ∷ os) n (suc b) o e h = omega (arith, in_order os (suc n) b o (ap (drop 1) e) h)
 
-pub byte_decoded : (b : ℕ) (o : Op) → decoded b ≡ Found o → byte_of o ≡ b
+pub byte_decoded : (b : ℕ) (o : Op) → decoded b ≡ Some o → byte_of o ≡ b
 byte_decoded b o h = omega (arith, in_order ops 0 b o refl h)
 
 -- bytes tell the operations apart

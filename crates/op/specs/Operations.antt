@@ -1,10 +1,8 @@
 -- "The forty opcodes": byte, name, form and length of each operation.
-use Rattle.std.specs.Prelude.{ℕ, zero, suc, List, [], ◌∷◌}
+use Rattle.std.specs.Prelude.{ℕ, zero, suc, List, [], ◌∷◌, Option, None, Some}
 use Prim.Native.String.{String}
 use Rattle.op.specs.declared.form.Form.{Form}
 use Rattle.op.specs.declared.operation.Op.{Op}
-use Rattle.op.specs.declared.operation.Lookup.{Lookup}
-use Rattle.op.specs.declared.operation.Lookup.TheVariants.{Found, Unknown}
 
 pub record Row : Type 0 where
   pub byte : ℕ
@@ -83,10 +81,10 @@ ops =
     []
 
 -- "0x28..0xFF are invalid"
-abbrev pub op_at : List Op → ℕ → Lookup
-op_at [] b = Unknown
-op_at (o ∷ os) zero = Found o
+abbrev pub op_at : List Op → ℕ → Option Op
+op_at [] b = None
+op_at (o ∷ os) zero = Some o
 op_at (o ∷ os) (suc b) = op_at os b
 
-abbrev pub decoded : ℕ → Lookup
+abbrev pub decoded : ℕ → Option Op
 decoded b = op_at ops b

@@ -4,7 +4,7 @@ ghost use Rattle.op.specs.Operations.{form_of, length_of};
 
 use crate::operation::Op;
 
-#[derive(Clone, Copy)]
+#[derive(Clone, Copy, PartialEq, Eq, Debug)]
 pub enum Form {
     None,
     Reg,
@@ -29,56 +29,41 @@ impl Form {
     }
 }
 
-// At each opcode byte the form of its operation.
-const FORMS: [Form; 40] = [
-    Form::None, // HLT
-    Form::None, // NOP
-    Form::RegImm, // LDI
-    Form::RegAddr, // LDA
-    Form::RegReg, // LDR
-    Form::RegReg, // MOV
-    Form::RegAddr, // STORE
-    Form::Reg, // PUSH
-    Form::Reg, // POP
-    Form::RegReg, // ADD
-    Form::RegImm, // ADDI
-    Form::RegReg, // SUB
-    Form::RegImm, // SUBI
-    Form::Reg, // INC
-    Form::Reg, // DEC
-    Form::RegReg, // AND
-    Form::RegReg, // OR
-    Form::RegReg, // XOR
-    Form::Reg, // NOT
-    Form::RegReg, // CMP
-    Form::Reg, // SHL
-    Form::Reg, // SHR
-    Form::Addr, // JMP
-    Form::Addr, // JZ
-    Form::Addr, // JNZ
-    Form::Reg, // PRINT
-    Form::RegReg, // MUL
-    Form::RegImm, // MULI
-    Form::RegReg, // DIV
-    Form::RegImm, // DIVI
-    Form::RegReg, // MOD
-    Form::RegImm, // MODI
-    Form::Addr, // CALL
-    Form::None, // RET
-    Form::Reg, // ROL
-    Form::Reg, // ROR
-    Form::Reg, // IN
-    Form::Reg, // JMPR
-    Form::Reg, // CALLR
-    Form::RegReg, // STR
-];
-
 impl Op {
     pub fn form(self) -> Form
         ensures { result ≡ form_of self }
     {
-        let b = self.byte() as usize;
-        FORMS[b]
+        match self {
+            Op::HLT | Op::NOP | Op::RET => Form::None,
+            Op::PUSH
+            | Op::POP
+            | Op::INC
+            | Op::DEC
+            | Op::NOT
+            | Op::SHL
+            | Op::SHR
+            | Op::PRINT
+            | Op::ROL
+            | Op::ROR
+            | Op::IN
+            | Op::JMPR
+            | Op::CALLR => Form::Reg,
+            Op::LDI | Op::ADDI | Op::SUBI | Op::MULI | Op::DIVI | Op::MODI => Form::RegImm,
+            Op::LDR
+            | Op::MOV
+            | Op::ADD
+            | Op::SUB
+            | Op::AND
+            | Op::OR
+            | Op::XOR
+            | Op::CMP
+            | Op::MUL
+            | Op::DIV
+            | Op::MOD
+            | Op::STR => Form::RegReg,
+            Op::LDA | Op::STORE => Form::RegAddr,
+            Op::JMP | Op::JZ | Op::JNZ | Op::CALL => Form::Addr,
+        }
     }
 
     pub fn instruction_len(self) -> u8
