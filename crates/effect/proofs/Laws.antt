@@ -1,10 +1,10 @@
 -- A fault's number and values tell the fault, and a turn's fate the turn.
-use Rattle.std.proofs.Common.{◌≡◌, ℕ, ◌<◌, cond, eqb, List, get_or, refl, ap, arith}
+use Rattle.std.proofs.Common.{◌≡◌, ℕ, ◌<◌, cond, eqb, List, get_or, Result, Ok, Err, refl, ap, arith}
 use Rattle.byte.proofs.Inverse.{undone}
 use Rattle.effect.specs.declared.Fault.{Fault}
 use Rattle.effect.specs.declared.Fault.TheVariants.{InvalidOpcode, StackFull, StackEmpty, DivisorZero, NoInput, NoRoom}
 use Rattle.effect.specs.declared.Turn.{Turn}
-use Rattle.effect.specs.declared.Turn.TheVariants.{Done, Halt, Refused}
+use Rattle.effect.specs.declared.Turn.TheVariants.{Done, Halt}
 use Rattle.effect.specs.Effects.{Fate, done, halt, refused}
 use Rattle.effect.specs.Numbers.{number_of, fault_number, fate}
 
@@ -37,15 +37,15 @@ fault_high NoRoom = omega arith
 pub fault_number_injective : (f g : Fault) → fault_number f ≡ fault_number g → f ≡ g
 fault_number_injective = undone fault_number fault_of fault_of_number
 
-abbrev turn_as : Fate → Turn
-turn_as (done e) = Done e
-turn_as halt = Halt
-turn_as (refused n) = Refused (fault_of n)
+abbrev turn_as : Fate → Result Turn Fault
+turn_as (done e) = Ok (Done e)
+turn_as halt = Ok Halt
+turn_as (refused n) = Err (fault_of n)
 
-turn_as_fate : (t : Turn) → turn_as (fate t) ≡ t
-turn_as_fate (Done e) = refl
-turn_as_fate Halt = refl
-turn_as_fate (Refused f) = ap Refused (fault_of_number f)
+turn_as_fate : (t : Result Turn Fault) → turn_as (fate t) ≡ t
+turn_as_fate (Ok (Done e)) = refl
+turn_as_fate (Ok Halt) = refl
+turn_as_fate (Err f) = ap Err (fault_of_number f)
 
-pub fate_injective : (t u : Turn) → fate t ≡ fate u → t ≡ u
+pub fate_injective : (t u : Result Turn Fault) → fate t ≡ fate u → t ≡ u
 fate_injective = undone fate turn_as turn_as_fate

@@ -1,9 +1,10 @@
 -- "Numbers that come back": the paper's number and values of each case of the answers that this crate gives.
-use Rattle.std.specs.Prelude.{ℕ, List, [], ◌∷◌}
+use Rattle.std.specs.Prelude.{ℕ, List, [], ◌∷◌, Result, Ok, Err}
+use Rattle.effect.specs.declared.Effect.{Effect}
 use Rattle.effect.specs.declared.Fault.{Fault}
 use Rattle.effect.specs.declared.Fault.TheVariants.{InvalidOpcode, StackFull, StackEmpty, DivisorZero, NoInput, NoRoom}
 use Rattle.effect.specs.declared.Turn.{Turn}
-use Rattle.effect.specs.declared.Turn.TheVariants.{Done, Halt, Refused}
+use Rattle.effect.specs.declared.Turn.TheVariants.{Done, Halt}
 use Rattle.effect.specs.Effects.{Fate, done, halt, refused}
 
 -- the number alone, of a number and its values
@@ -19,7 +20,12 @@ fault_number (DivisorZero opcode) = 6 ∷ opcode ∷ []
 fault_number NoInput = 7 ∷ []
 fault_number NoRoom = 8 ∷ []
 
-abbrev pub fate : Turn → Fate
-fate (Done e) = done e
-fate Halt = halt
-fate (Refused f) = refused (fault_number f)
+-- how an instruction ends that does not halt
+abbrev pub ending : Result Effect Fault → Fate
+ending (Ok e) = done e
+ending (Err f) = refused (fault_number f)
+
+abbrev pub fate : Result Turn Fault → Fate
+fate (Ok (Done e)) = done e
+fate (Ok Halt) = halt
+fate (Err f) = refused (fault_number f)

@@ -41,9 +41,9 @@ pub enum Fault {
     NoRoom,
 }
 
+// How an instruction ends that meets no fault.
 #[derive(Clone, Copy)]
 pub enum Turn {
     Done(Effect),
     Halt,
-    Refused(Fault),
 }

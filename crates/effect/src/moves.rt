@@ -1,11 +1,9 @@
 // Where the machine stands, and the plain moves from there.
 ghost use Rattle.std.specs.Prelude.{◌≡◌, slice_index};
-ghost use Rattle.effect.specs.Effects.{at_sp, at_place, kept, loaded, jumped, branched, done};
-ghost use Rattle.effect.specs.Numbers.{fate};
+ghost use Rattle.effect.specs.Effects.{at_sp, at_place, kept, loaded, jumped, branched};
 
-use crate::{Effect, Turn, Write};
+use crate::{Effect, Write};
 use byte::flags::update_zn_flags;
-use std::num::wrapping_add_u8;
 
 // What an instruction may move beside what it writes.
 #[derive(Clone, Copy)]
@@ -20,81 +18,71 @@ impl Core {
     pub fn at_sp(self, sp: u8) -> Core
         ensures { result ≡ at_sp self sp }
     {
-        Core {
-            pc: self.pc,
-            sp: sp,
-            flags: self.flags,
-            place: self.place,
-        }
+        Core { sp, ..self }
     }
 
     pub fn at_place(self, place: usize) -> Core
         ensures { result ≡ at_place self place }
     {
-        Core {
-            pc: self.pc,
-            sp: self.sp,
-            flags: self.flags,
-            place: place,
-        }
+        Core { place, ..self }
     }
 
     // pc goes on by the length, and all else stays.
     #[tactic(auto, unfolding(crate::specs::Effects::kept))]
-    pub fn keep(self, length: u8, write: Write) -> Turn
-        ensures { fate result ≡ done (kept self length write) }
+    pub fn keep(self, length: u8, write: Write) -> Effect
+        ensures { result ≡ kept self length write }
     {
-        Turn::Done(Effect {
-            write: write,
-            pc: wrapping_add_u8(self.pc, length),
+        Effect {
+            write,
+            pc: self.pc.wrapping_add(length),
             sp: self.sp,
             flags: self.flags,
             place: self.place,
-        })
+        }
     }
 
     // A register takes a byte, with ZN.
     #[tactic(auto, unfolding(crate::specs::Effects::loaded))]
-    pub fn load(self, length: u8, register: u8, value: u8) -> Turn
-        ensures { fate result ≡ done (loaded self length register value) }
+    pub fn load(self, length: u8, register: u8, value: u8) -> Effect
+        ensures { result ≡ loaded self length register value }
     {
-        Turn::Done(Effect {
+        Effect {
             write: Write::Register(register, value),
-            pc: wrapping_add_u8(self.pc, length),
+            pc: self.pc.wrapping_add(length),
             sp: self.sp,
             flags: update_zn_flags(self.flags, value),
             place: self.place,
-        })
+        }
     }
 
     // A register takes a byte of memory, with ZN.
-    pub fn load_from(self, length: u8, register: u8, memory: &[u8; 256], address: u8) -> Turn
-        ensures { fate result ≡ done (loaded self length register (slice_index memory.now address)) }
+    pub fn load_from(self, length: u8, register: u8, memory: &[u8; 256], address: u8) -> Effect
+        ensures { result ≡ loaded self length register (slice_index memory.now address) }
     {
-        self.load(length, register, memory[address as usize])
+        self.load(length, register, memory[usize::from(address)])
     }
 
     #[tactic(auto, unfolding(crate::specs::Effects::jumped))]
-    pub fn jump(self, to: u8) -> Turn
-        ensures { fate result ≡ done (jumped self to) }
+    pub fn jump(self, to: u8) -> Effect
+        ensures { result ≡ jumped self to }
     {
-        Turn::Done(Effect {
+        Effect {
             write: Write::Nothing,
             pc: to,
             sp: self.sp,
             flags: self.flags,
             place: self.place,
-        })
+        }
     }
 
     // To the address where the jump is taken, else on past the two bytes of JZ or JNZ.
-    pub fn branch(self, to: u8, jumps: bool) -> Turn
-        ensures { fate result ≡ done (branched self 2 to jumps) }
+    pub fn branch(self, to: u8, jumps: bool) -> Effect
+        ensures { result ≡ branched self 2 to jumps }
     {
         if jumps {
             self.jump(to)
         } else {
-            self.jump(wrapping_add_u8(self.pc, 2))
+            self.jump(self.pc.wrapping_add(2))
         }
     }
 }

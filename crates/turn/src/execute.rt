@@ -7,21 +7,18 @@ ghost use Rattle.instruction.specs.Operands.{operands_of};
 
 use byte::arithmetic::{
     overflowing_add, overflowing_div, overflowing_mul, overflowing_rem, overflowing_sub,
-    wrapping_sub,
 };
 use byte::flags::{FLAG_Z, get_flag};
 use byte::shift::{rotate_left, rotate_right, shift_left, shift_right};
 use effect::moves::Core;
-use effect::{Turn, Write};
+use effect::{Effect, Fault, Turn, Write};
 use op::operation::Op;
-use std::num::wrapping_add_u8;
 
 // Byte three, read only by the operations that have one: at every fetch it would cost those that do not.
 fn third(memory: &[u8; 256], pc: u8) -> u8
     ensures { result ≡ slice_index memory.now ((pc + 2) % 256) }
 {
-    let three = wrapping_add_u8(pc, 2);
-    memory[three as usize]
+    memory[usize::from(pc.wrapping_add(2))]
 }
 
 // d and s are the two halves of byte two, and at_d and at_s what their registers hold. A lone register is s.
@@ -34,7 +31,7 @@ pub fn execute(
     core: Core,
     input: &[u8],
     room: bool,
-) -> Turn
+) -> Result<Turn, Fault>
     ensures { fate result
         ≡ fate_of
         op
@@ -44,8 +41,8 @@ pub fn execute(
     let pc = core.pc;
     let d = second / 16;
     let s = second % 16;
-    let at_d = registers[d as usize];
-    let at_s = registers[s as usize];
+    let at_d = registers[usize::from(d)];
+    let at_s = registers[usize::from(s)];
     match op {
         Op::HLT => Turn::Halt,
         Op::NOP => core.keep(1, Write::Nothing),
@@ -60,8 +57,8 @@ pub fn execute(
         Op::ADDI => core.result(3, s, overflowing_add(at_s, third(memory, pc))),
         Op::SUB => core.result(2, d, overflowing_sub(at_d, at_s)),
         Op::SUBI => core.result(3, s, overflowing_sub(at_s, third(memory, pc))),
-        Op::INC => core.load(2, s, wrapping_add_u8(at_s, 1)),
-        Op::DEC => core.load(2, s, wrapping_sub(at_s, 1)),
+        Op::INC => core.load(2, s, at_s.wrapping_add(1)),
+        Op::DEC => core.load(2, s, at_s.wrapping_sub(1)),
         Op::AND => core.load(2, d, at_d & at_s),
         Op::OR => core.load(2, d, at_d | at_s),
         Op::XOR => core.load(2, d, at_d ^ at_s),
