@@ -38,11 +38,6 @@ unfolding digits_before
 digits_none zero digits = refl
 digits_none (suc k) digits = refl
 
-pub digits_full : (k n : ℕ) (digits : List ℕ) → k ≤ 0 → digits_before k n digits ≡ digits
-unfolding digits_before
-digits_full zero n digits h = refl
-digits_full (suc k) n digits h = absurd (omega arith)
-
 -- a place written just before those behind it
 written_before : (l : List ℕ) (i v : ℕ) → i < length l → drop i (set l i v) ≡ v ∷ drop (suc i) l
 written_before [] i v h = absurd (omega arith)
@@ -54,6 +49,12 @@ pub digits_more :
     digits_before (suc k) n digits ≡ digits_before k (n / 10) ((48 + n % 10) ∷ digits)
 unfolding digits_before
 digits_more k n digits more = rw (ne_eqb _ _ more)
+
+-- while something is left there is a place for its last digit, and room for the rest
+pub room_less : (at n : ℕ) → 0 < n → n < 10 ^ at → (0 < at) × (n / 10 < 10 ^ (at - 1))
+room_less zero n some room = absurd (omega (arith, pow-zero 10))
+room_less (suc a) n some room =
+    let less : suc a - 1 ≡ a = omega arith in (omega arith, rw less (omega (arith, pow-suc 10 a)))
 
 pub digits_turn :
     (l : List ℕ) (at n : ℕ) → 0 < at → at ≤ length l → n ≢ 0 →

@@ -7,7 +7,7 @@ use native.Mathlib.Nat.{add-zero}
 use native.Mathlib.Numerals.{add-one}
 use native.Mathlib.Omega.{arith}
 use borrow.Author.Tests.{lt-ltb, le-ltb}
-use lib.ListN.{length, length-append, length-set, get_or, set, take, take-append-drop, drop, replicate}
+use lib.ListN.{length, length-append, length-set, get_or, set, take, take-append-drop, drop, drop_of_length-le, replicate}
 use lib.Seq.{drop-cons, take-suc-set}
 use Rattle.text.specs.declared.line.Line.{Line}
 use Rattle.text.specs.Lines.{put, appended, lined}
@@ -31,6 +31,11 @@ pub appended_full : (l : Line) (text : List ℕ) → 64 ≤ l.length → appende
 unfolding appended
 appended_full l [] h = refl
 appended_full l (b ∷ bs) h = rw (le-ltb _ _ h) (appended_full l bs h)
+
+-- no byte is left
+pub appended_end : (l : Line) (text : List ℕ) (i : ℕ) → length text ≤ i → appended l (drop i text) ≡ l
+unfolding appended
+appended_end l text i h = rw (drop_of_length-le text h)
 
 pub appended_twice : (l : Line) (a b : List ℕ) → appended (appended l a) b ≡ appended l (a ++ b)
 unfolding appended
@@ -95,3 +100,6 @@ line_holds text {line} room e =
       within =
           omega (arith, ap length whole, simp length-append at (ap length (take-append-drop line.length line.bytes)));
     }
+
+-- what each turn of the code does
+pub ruleset line_laws = (appended_byte, appended_full, appended_end)

@@ -6,7 +6,7 @@ use Prim.Native.Nat.{ℕ, zero, suc, ◌+◌, ◌*◌, ◌-◌, ◌/◌, ◌%◌
 use native.Mathlib.Nat.{pow-zero, pow-suc}
 use native.Mathlib.Omega.{arith}
 use borrow.Author.Tests.{le-leb, ne_eqb}
-use Rattle.text.specs.declared.number.Numeral.TheVariants.{Number}
+use Rattle.std.specs.Prelude.{Some}
 use Rattle.text.specs.Decimal.{decimal, value_from, numeral}
 use Rattle.text.proofs.DecimalLaws.{digits_before, decimal_before, digits_none, digits_more}
 
@@ -39,7 +39,7 @@ before_read (suc k) (suc n) digits few small led =
     (before_read k (suc n / 10) ((48 + suc n % 10) ∷ digits) less (omega arith) (λ none. leads _ digits (first none)) ∙
     digit_read (suc n) digits small)
 
-pub read_back : (n : ℕ) → n ≤ 65535 → numeral (decimal n) ≡ Number n
+pub read_back : (n : ℕ) → n ≤ 65535 → numeral (decimal n) ≡ Some n
 unfolding numeral value_from
 read_back n h =
     ap numeral (decimal_before n) ∙
@@ -47,4 +47,4 @@ read_back n h =
 
 -- so the digits tell the number
 pub decimal_injective : (n m : ℕ) → n ≤ 65535 → m ≤ 65535 → decimal n ≡ decimal m → n ≡ m
-decimal_injective n m h k e = let same : Number n ≡ Number m = cc (read_back n h, read_back m k, ap numeral e) in cc
+decimal_injective n m h k e = let same : Some n ≡ Some m = cc (read_back n h, read_back m k, ap numeral e) in cc

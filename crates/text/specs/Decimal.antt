@@ -1,7 +1,5 @@
 -- "numbers are decimal without leading zeros"
-use Rattle.std.specs.Prelude.{ℕ, zero, suc, ◌+◌, ◌*◌, ◌-◌, ◌/◌, ◌%◌, Bool, cond, ◌&&◌, List, [], ◌∷◌, ◌++◌, eqb, leb}
-use Rattle.text.specs.declared.number.Numeral.{Numeral}
-use Rattle.text.specs.declared.number.Numeral.TheVariants.{Number, NoNumber}
+use Rattle.std.specs.Prelude.{ℕ, zero, suc, ◌+◌, ◌*◌, ◌-◌, ◌/◌, ◌%◌, Bool, cond, ◌&&◌, List, [], ◌∷◌, ◌++◌, Option, Some, None, eqb, leb}
 
 -- the last digit of a number
 abbrev pub last_digit : ℕ → ℕ
@@ -20,13 +18,13 @@ abbrev pub is_digit : ℕ → Bool
 is_digit c = leb 48 c && leb c 57
 
 -- the number that the digits make behind those that made one already, up to 65,535
-unfoldable pub value_from : ℕ → List ℕ → Numeral
-value_from v [] = Number v
+unfoldable pub value_from : ℕ → List ℕ → Option ℕ
+value_from v [] = Some v
 value_from v (c ∷ cs) =
-    cond (is_digit c && leb (v * 10 + (c - 48)) 65535) (value_from (v * 10 + (c - 48)) cs) NoNumber
+    cond (is_digit c && leb (v * 10 + (c - 48)) 65535) (value_from (v * 10 + (c - 48)) cs) None
 
 -- one digit at least, and no 0 before others
-unfoldable pub numeral : List ℕ → Numeral
-numeral [] = NoNumber
+unfoldable pub numeral : List ℕ → Option ℕ
+numeral [] = None
 numeral (c ∷ []) = value_from 0 (c ∷ [])
-numeral (c ∷ d ∷ cs) = cond (eqb c 48) NoNumber (value_from 0 (c ∷ d ∷ cs))
+numeral (c ∷ d ∷ cs) = cond (eqb c 48) None (value_from 0 (c ∷ d ∷ cs))

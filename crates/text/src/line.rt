@@ -1,5 +1,5 @@
 // A line of words and numbers, put together piece by piece. What it has no room for is left out.
-ghost use Rattle.std.specs.Prelude.{◌+◌, ◌%◌, ◌≡◌};
+ghost use Rattle.std.specs.Prelude.{◌+◌, ◌%◌, ◌≡◌, take};
 ghost use Rattle.text.specs.Decimal.{decimal};
 ghost use Rattle.text.specs.Lines.{appended, empty_line, named};
 
@@ -20,25 +20,30 @@ impl Line {
         }
     }
 
+    // The text.
+    pub fn as_bytes(&self) -> &[u8]
+        ensures { result.now ≡ take self.now.length self.now.bytes }
+    {
+        &self.bytes[..self.length.min(64)]
+    }
+
     // A piece of text behind what is there, as far as there is room.
+    #[tactic(auto, using(crate::proofs::LineLaws::line_laws))]
     pub fn text(self, text: &[u8]) -> Line
         ensures { result ≡ appended self text.now }
     {
-        let mut bytes = self.bytes;
-        let mut length = self.length;
-        let mut i: usize = 0;
-        while i < text.len() {
+        let Line {
+            mut bytes,
+            mut length,
+        } = self;
+        for byte in text {
             if length >= 64 {
                 break;
             }
-            bytes[length] = text[i];
+            bytes[length] = *byte;
             length += 1;
-            i += 1;
         }
-        Line {
-            bytes: bytes,
-            length: length,
-        }
+        Line { bytes, length }
     }
 
     // A number in decimal, without leading zeros. The largest has twenty digits; they come last first.
@@ -46,13 +51,10 @@ impl Line {
         ensures { result ≡ appended self (decimal number) }
     {
         let mut digits = [0; 20];
-        let mut at: usize = 19;
+        let mut at = 19;
         digits[at] = digit(number);
         let mut rest = number / 10;
-        while at > 0 {
-            if rest == 0 {
-                break;
-            }
+        while rest > 0 {
             at -= 1;
             digits[at] = digit(rest);
             rest /= 10;
