@@ -7,18 +7,18 @@ use native.Mathlib.Omega.{arith}
 use borrow.Author.Tests.{ltb-true}
 use lib.Dec.{ltb}
 use lib.ListN.{length, set, length-set}
-use Rattle.digits.specs.declared.unhex.Unhexed.{Unhexed}
-use Rattle.digits.specs.declared.unhex.Unhexed.TheVariants.{Bytes, Stopped}
+use Rattle.std.specs.Prelude.{Result, Ok, Err}
+use Rattle.digits.specs.declared.unhex.Stopped.{Stopped}
 use Rattle.digits.specs.Digit.{digit_of}
-use Rattle.digits.specs.Unhex.{Told, told, turn, from, parts, unhexed}
+use Rattle.digits.specs.Unhex.{Told, told, stopped, turn, from, parts, unhexed}
 
 -- the bytes counted are no more than the buffer has
 abbrev pub Within : Told → Type 0
 Within t = counted t.answer (length t.buffer)
   where
-    counted : Unhexed → ℕ → Type 0
-    counted (Bytes n) room = n ≤ room
-    counted (Stopped at) room = Unit {0}
+    counted : Result ℕ Stopped → ℕ → Type 0
+    counted (Ok n) room = n ≤ room
+    counted (Err e) room = Unit {0}
 
 -- what holds of each outcome of a turn holds of the turn; a byte is whole only where there is room
 either_way :
@@ -33,7 +33,7 @@ either_way false false false room whole first between stop w f b s = s
 
 at_end :
     (b : Bool) (at count : ℕ) (buffer : List ℕ) → count ≤ length buffer →
-    Within (told (cond b (Stopped at) (Bytes count)) buffer)
+    Within (told (cond b (stopped at) (Ok count)) buffer)
 at_end true at count buffer h = tt
 at_end false at count buffer h = h
 
@@ -51,7 +51,7 @@ within (c ∷ cs) at buffer count high h =
     (from cs (at + 1) (set buffer count (high * 16 + digit_of c)) (count + 1) 16)
     (from cs (at + 1) buffer count (digit_of c))
     (from cs (at + 1) buffer count 16)
-    (told (Stopped at) buffer)
+    (told (stopped at) buffer)
     (λ e.
     within
     cs
@@ -65,6 +65,6 @@ within (c ∷ cs) at buffer count high h =
     tt
 
 pub bytes_fit :
-    (r : Unhexed) (n : ℕ) (after text buffer : List ℕ) → told r after ≡ unhexed text buffer → r ≡ Bytes n → n ≤ length after
+    (r : Result ℕ Stopped) (n : ℕ) (after text buffer : List ℕ) → told r after ≡ unhexed text buffer → r ≡ Ok n → n ≤ length after
 bytes_fit r n after text buffer e b =
     subst (λ a. Within (told a after)) b (subst Within (sym e) (within text 0 buffer 0 16 zero-le))

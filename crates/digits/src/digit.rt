@@ -1,19 +1,17 @@
 // Hexadecimal digits: the value of one, in either case, and the two of a byte, in upper case.
-ghost use Rattle.std.specs.Prelude.{◌<◌, ◌≡◌};
+ghost use Rattle.std.specs.Prelude.{◌<◌, ◌≡◌, MatchOption};
 ghost use Rattle.digits.specs.Digit.{digit_of, pair_of, upper_of};
 
-// The value of a byte that is no digit.
-pub const NONE: u8 = 16;
-
-// The value of a digit in either case, and 16 where the byte is none.
-pub fn digit(c: u8) -> u8
-    ensures { result ≡ digit_of c }
+// The value of a digit in either case.
+#[tactic(auto, unfolding(crate::specs::Digit::digit_of))]
+pub fn digit(c: u8) -> Option<u8>
+    ensures { MatchOption result (digit_of c ≡ 16) (λ d. (d < 16) × (d ≡ digit_of c)) }
 {
     match c {
-        48..=57 => c - 48,
-        65..=70 => c - 55,
-        97..=102 => c - 87,
-        _ => NONE,
+        b'0'..=b'9' => Some(c - b'0'),
+        b'A'..=b'F' => Some(c - b'A' + 10),
+        b'a'..=b'f' => Some(c - b'a' + 10),
+        _ => None,
     }
 }
 

@@ -2,56 +2,43 @@
 ghost use Rattle.std.specs.Prelude.{◌≡◌};
 ghost use Rattle.digits.specs.Unhex.{parts, unhexed, told};
 
-use crate::digit::{NONE, digit};
+use crate::digit::digit;
 
-#[derive(Clone, Copy)]
-pub enum Unhexed {
-    // so many bytes, at the start of the buffer
-    Bytes(usize),
-    // at this place of the text stands something that is no byte, or one for which there is no room
-    Stopped(usize),
+// At this place of the text stands something that is no byte, or one for which there is no room.
+#[derive(Clone, Copy, PartialEq, Eq, Debug)]
+pub struct Stopped {
+    pub at: usize,
 }
 
-// Where no digit waits for its second, NONE stands in its place.
-pub fn unhex(text: &[u8], buffer: &mut [u8]) -> Unhexed
+// How many bytes there are; they stand at the start of the buffer.
+#[tactic(auto, using(crate::proofs::UnhexLaws::reading_laws))]
+pub fn unhex(text: &[u8], buffer: &mut [u8]) -> Result<usize, Stopped>
     ensures { told result buffer.new ≡ unhexed text.now buffer.old }
 {
-    let mut high = NONE;
-    let mut count: usize = 0;
-    let mut i: usize = 0;
-    while i < text.len() {
-        let c = text[i];
-        let d = digit(c);
-        if d < 16 {
-            if high < 16 {
-                if count >= buffer.len() {
-                    return Unhexed::Stopped(i);
-                }
-                buffer[count] = high * 16 + d;
+    let mut high = None;
+    let mut count = 0;
+    for (at, c) in text.iter().enumerate() {
+        match (high, digit(*c)) {
+            (Some(first), Some(second)) if count < buffer.len() => {
+                buffer[count] = first * 16 + second;
                 count += 1;
-                high = NONE;
-            } else {
-                high = d;
+                high = None;
             }
-        } else {
-            if high != NONE {
-                return Unhexed::Stopped(i);
-            }
-            if !parts(c) {
-                return Unhexed::Stopped(i);
-            }
+            (None, Some(first)) => high = Some(first),
+            (None, None) if parts(*c) => {}
+            _ => return Err(Stopped { at }),
         }
-        i += 1;
     }
-    if high == NONE {
-        return Unhexed::Bytes(count);
+    match high {
+        None => Ok(count),
+        Some(_) => Err(Stopped { at: text.len() }),
     }
-    Unhexed::Stopped(i)
 }
 
 // What may stand between bytes.
+#[tactic(auto, unfolding(crate::specs::Unhex::parts))]
 fn parts(c: u8) -> bool
     ensures { result ≡ parts c }
 {
-    if c == b' ' { true } else { c == b'|' }
+    c == b' ' || c == b'|'
 }
