@@ -1,6 +1,7 @@
 -- "up to 64 entries, each a place in the source, a length and an address"; "The table lists names in order of first appearance, with that place; a
 -- repeated label takes the later address and alters nothing else; unused entries are 0."
-use Rattle.std.specs.Prelude.{ℕ, zero, suc, ◌+◌, Bool, true, cond, ◌&&◌, List, eqb, get_or, set, replicate}
+use Rattle.std.specs.Prelude.{ℕ, zero, suc, ◌+◌, Bool, true, ◌&&◌, List, eqb, get_or, set, replicate, take, Option}
+use Rattle.std.specs.List.{position, zip}
 use Rattle.table.specs.declared.labels.Labels.{Labels}
 
 abbrev pub no_labels : Labels
@@ -12,19 +13,14 @@ unfoldable pub alike : (source : List ℕ) (a b n : ℕ) → Bool
 alike source a b zero = true
 alike source a b (suc n) = eqb (get_or source a 0) (get_or source b 0) && alike source (a + 1) (b + 1) n
 
--- whether the i-th entry has the name that stands at a place
-abbrev pub same_name : (source places lengths : List ℕ) (i place length : ℕ) → Bool
-same_name source places lengths i place length =
-    eqb (get_or lengths i 0) length && alike source (get_or places i 0) place length
+-- whether an entry's place and length are those of the name that stands at a place
+abbrev pub same_name : (source : List ℕ) (entry : ℕ × ℕ) (place length : ℕ) → Bool
+same_name source entry place length = eqb entry.1 length && alike source entry.0 place length
 
--- the first entry of so many, from the i-th on, that has the name; the one behind them, where none has
-unfoldable pub found_from : (source places lengths : List ℕ) (place length i n : ℕ) → ℕ
-found_from source places lengths place length i zero = i
-found_from source places lengths place length i (suc n) =
-    cond (same_name source places lengths i place length) i (found_from source places lengths place length (i + 1) n)
-
-abbrev pub found : (source : List ℕ) (t : Labels) (place length : ℕ) → ℕ
-found source t place length = found_from source t.places t.lengths place length 0 t.count
+-- the first entry that has the name
+abbrev pub found : (source : List ℕ) (t : Labels) (place length : ℕ) → Option ℕ
+found source t place length =
+    position (λ (e : ℕ × ℕ). same_name source e place length) (zip (take t.count t.places) (take t.count t.lengths))
 
 -- "a repeated label takes the later address and alters nothing else"
 abbrev pub readdressed : (t : Labels) (i address : ℕ) → Labels
