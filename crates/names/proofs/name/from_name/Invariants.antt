@@ -1,11 +1,8 @@
--- No operation before k has this name: what is named in all forty is named in those from k on.
-use Rattle.std.proofs.Common.{◌≡◌, ◌-◌, drop}
+-- No operation before the value has this name: what is named in all forty is named in those from the value on.
+use Rattle.std.proofs.Common.{◌≡◌, drop}
 use Rattle.op.specs.Operations.{ops}
 use Rattle.names.specs.Names.{name_in, named}
 use Rattle.names.proofs.name.from_name.Given as goal
 
-abbrev pub invariant-loop-k : goal.invariant-loop-k
-invariant-loop-k l = named l.text ≡ name_in (drop l.k ops) l.text
-
-abbrev pub decreases-loop-k : goal.decreases-loop-k
-decreases-loop-k l = 40 - l.k
+abbrev pub invariant-loop-value : goal.invariant-loop-value
+invariant-loop-value l = named l.text ≡ name_in (drop l.value ops) l.text
