@@ -1,5 +1,5 @@
 -- Step and run are so many turns: one, and those up to the limit. At the largest count a step is told by one turn from count 0.
-use Rattle.std.specs.Prelude.{◌≡◌, ℕ, zero, suc, ◌+◌, ◌-◌, ◌<◌, ◌≤◌, Bool, true, false, eqb, ltb, List, [], ◌∷◌, length}
+use Rattle.std.specs.Prelude.{◌≡◌, ℕ, zero, suc, ◌+◌, ◌-◌, ◌<◌, ◌≤◌, Bool, true, false, eqb, ltb, List, [], ◌∷◌, length, Result, Ok, Err}
 use mathlib.Core.Path.{refl, sym, ◌∙◌, ap, subst}
 use native.Mathlib.Nat.{not-suc-le-zero}
 use native.Mathlib.Omega.{arith}
@@ -9,9 +9,11 @@ use Rattle.effect.specs.Effects.{Fate, done, halt, refused}
 use Rattle.turn.specs.Turn.{turn_of}
 use Rattle.effect.specs.Numbers.{number_of}
 use Rattle.turn.proofs.Laws.{refused_number}
-use Rattle.nanocore.specs.declared.answer.StepAnswer.{StepAnswer}
-use Rattle.nanocore.specs.declared.answer.StepAnswer.TheVariants.{Stepped, AlreadyHalted, CountFull}
-use Rattle.nanocore.specs.declared.answer.StepOutcome.{StepOutcome}
+use Rattle.nanocore.specs.declared.answer.Completed.{Completed}
+use Rattle.nanocore.specs.declared.answer.Completed.TheVariants.{Stepped, Halted}
+use Rattle.nanocore.specs.declared.answer.Outcome.{Outcome}
+use Rattle.nanocore.specs.declared.answer.StepRefusal.{StepRefusal}
+use Rattle.nanocore.specs.declared.answer.StepRefusal.TheVariants.{AlreadyHalted, CountFull}
 use Rattle.nanocore.specs.declared.machine.Machine.{Machine}
 use Rattle.nanocore.specs.Machine.{most_count}
 use Rattle.nanocore.specs.Numbers.{step_number, run_number, stepping}
@@ -140,13 +142,13 @@ turns_plain input (suc k) s e = by (went input s) (turns_plain input k)
 
 -- what the code makes of the last turn's answer is what the definition does
 pub as_run_lem :
-    (a : StepAnswer) (limit : ℕ) (s : Situation) → (number_of (step_number a) ≡ 2 → ⊥) → (number_of (step_number a) ≡ 9 → ⊥) →
+    (a : Result Completed StepRefusal) (limit : ℕ) (s : Situation) → (number_of (step_number a) ≡ 2 → ⊥) → (number_of (step_number a) ≡ 9 → ⊥) →
     refused_at (run_number (as_run a limit)) s ≡ limited limit (refused_at (step_number a) s)
-as_run_lem Stepped limit s two nine = refl
-as_run_lem StepAnswer.Halted limit s two nine = refl
-as_run_lem AlreadyHalted limit s two nine = absurd (two refl)
-as_run_lem (StepAnswer.Refused f) limit s two nine = rw (fault_stops f)
-as_run_lem CountFull limit s two nine = absurd (nine refl)
+as_run_lem (Ok Stepped) limit s two nine = refl
+as_run_lem (Ok Halted) limit s two nine = refl
+as_run_lem (Err AlreadyHalted) limit s two nine = absurd (two refl)
+as_run_lem (Err (StepRefusal.Fault f)) limit s two nine = rw (fault_stops f)
+as_run_lem (Err CountFull) limit s two nine = absurd (nine refl)
 
 -- a look at a halted machine, and at one that is at its limit
 looked_halted :
@@ -179,7 +181,7 @@ module _ (input : List ℕ) (m : Machine) (place : ℕ) (output : List ℕ) (wri
 
   -- At the largest count a step is told by one turn from count 0, with room where the step has room: 9 where the count rose, else the turn's answer.
   module _ (full : m.count ≡ most_count) (scratch : List ℕ) (used : ℕ) (room : ltb used (length scratch) ≡ ltb written (length output))
-      (tried : StepOutcome) (out : List ℕ) (e : stepping tried out ≡ turns_of 1 input (situated (counting false 0 m) place scratch used)) where
+      (tried : Outcome (Result Completed StepRefusal)) (out : List ℕ) (e : stepping tried out ≡ turns_of 1 input (situated (counting false 0 m) place scratch used)) where
     abbrev s : Situation
     s = situated m place output written
 
@@ -216,7 +218,7 @@ module _ (input : List ℕ) (m : Machine) (place : ℕ) (output : List ℕ) (wri
         ∙ sym (step_awake input s h)
 
   pub run_last :
-      (last : StepOutcome) (out : List ℕ) → m.count < m.limit → m.limit ≤ most_count →
+      (last : Outcome (Result Completed StepRefusal)) (out : List ℕ) → m.count < m.limit → m.limit ≤ most_count →
       stepping last out ≡ turns_of (m.limit - m.count) input (situated (awake m) place output written) →
       refused_at (run_number (as_run last.answer m.limit)) (situated last.machine last.place out last.written)
       ≡ run_of input (situated m place output written)

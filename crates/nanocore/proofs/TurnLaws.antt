@@ -1,5 +1,5 @@
 -- What so many turns come to, by what the first of them comes to.
-use Rattle.std.specs.Prelude.{◌≡◌, ℕ, zero, suc, ◌-◌, ◌<◌, ◌≤◌, false, List, [], ◌∷◌, length}
+use Rattle.std.specs.Prelude.{◌≡◌, ℕ, zero, suc, ◌-◌, ◌<◌, ◌≤◌, false, List, [], ◌∷◌, length, Result, Ok, Err}
 use mathlib.Core.Path.{refl, sym, ◌∙◌, ap}
 use native.Mathlib.Nat.{not-suc-le-zero}
 use native.Mathlib.Numerals.{sub-one}
@@ -9,15 +9,9 @@ use Rattle.effect.specs.declared.Effect.{Effect}
 use Rattle.effect.specs.declared.Write.{Write}
 use Rattle.effect.specs.declared.Write.TheVariants.{Nothing, Register, Memory, Output}
 use Rattle.effect.specs.declared.Fault.{Fault}
-use Rattle.effect.specs.declared.Fault.TheVariants.{
-  InvalidOpcode,
-  StackFull,
-  StackEmpty,
-  DivisorZero,
-  NoInput,
-  NoRoom,
-}
+use Rattle.effect.specs.declared.Fault.TheVariants.{InvalidOpcode, StackFull, StackEmpty, DivisorZero, NoInput, NoRoom}
 use Rattle.effect.specs.declared.Turn.{Turn}
+use Rattle.effect.specs.declared.Turn.TheVariants.{Done, Halt}
 use Rattle.effect.specs.Numbers.{fate, fault_number}
 use Rattle.turn.specs.Turn.{turn_of}
 use Rattle.nanocore.specs.Machine.{most_count}
@@ -57,14 +51,14 @@ module _ (input : List ℕ) (s : Situation) where
 
 -- From here the turns that are left come to t, and the next of them is r: what r tells is what t is.
 module _ (input : List ℕ) (s : Situation) (k : ℕ) {t : Answered} (all : turns_of k input s ≡ t) (some : 0 < k)
-    (r : Turn) (next : fate r ≡ turn_of (view_of input s)) where
-  pub turns_refused : (f : Fault) → r ≡ Turn.Refused f → refused_at (fault_number f) s ≡ t
+    (r : Result Turn Fault) (next : fate r ≡ turn_of (view_of input s)) where
+  pub turns_refused : (f : Fault) → r ≡ Err f → refused_at (fault_number f) s ≡ t
   turns_refused f e =
       let stops = ap (λ b. then b (refused_at (fault_number f) s) (turns_of (k - 1) input)) (fault_stops f) in
       sym (first input s k some ∙ rw (sym next, e) stops) ∙ all
 
-  pub turns_halted : r ≡ Turn.Halt → record { answer = 1 ∷ []; after = halted_at s } ≡ t
+  pub turns_halted : r ≡ Ok Halt → record { answer = 1 ∷ []; after = halted_at s } ≡ t
   turns_halted e = sym (first input s k some ∙ rw (sym next, e)) ∙ all
 
-  pub turns_done : (a : Effect) → r ≡ Turn.Done a → (s.machine.count ≡ most_count → ⊥) → turns_of (k - 1) input (applied a s) ≡ t
+  pub turns_done : (a : Effect) → r ≡ Ok (Done a) → (s.machine.count ≡ most_count → ⊥) → turns_of (k - 1) input (applied a s) ≡ t
   turns_done a e below = sym (first input s k some ∙ rw (sym next, e, ne_eqb _ _ below)) ∙ all

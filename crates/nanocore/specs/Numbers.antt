@@ -1,53 +1,51 @@
 -- "Numbers that come back": the paper's number and values of each case of what step, run, load and transfer answer.
-use Rattle.std.specs.Prelude.{ℕ, List, [], ◌∷◌}
+use Rattle.std.specs.Prelude.{ℕ, List, [], ◌∷◌, Result, Ok, Err}
 use Rattle.effect.specs.Numbers.{fault_number}
-use Rattle.nanocore.specs.declared.answer.LoadAnswer.{LoadAnswer}
-use Rattle.nanocore.specs.declared.answer.LoadAnswer.TheVariants.{Loaded, TooLong}
-use Rattle.nanocore.specs.declared.answer.RunAnswer.{RunAnswer}
-use Rattle.nanocore.specs.declared.answer.RunAnswer.TheVariants.{LimitReached}
-use Rattle.nanocore.specs.declared.answer.RunOutcome.{RunOutcome}
-use Rattle.nanocore.specs.declared.answer.StepAnswer.{StepAnswer}
-use Rattle.nanocore.specs.declared.answer.StepAnswer.TheVariants.{Stepped, AlreadyHalted, CountFull}
-use Rattle.nanocore.specs.declared.answer.StepOutcome.{StepOutcome}
-use Rattle.nanocore.specs.declared.answer.LoadOutcome.{LoadOutcome}
-use Rattle.nanocore.specs.declared.answer.TransferAnswer.{TransferAnswer}
-use Rattle.nanocore.specs.declared.answer.TransferAnswer.TheVariants.{Transferred, NoImage}
-use Rattle.nanocore.specs.declared.answer.TransferOutcome.{TransferOutcome}
+use Rattle.nanocore.specs.declared.answer.Completed.{Completed}
+use Rattle.nanocore.specs.declared.answer.Completed.TheVariants.{Stepped, Halted}
+use Rattle.nanocore.specs.declared.answer.StepRefusal.{StepRefusal}
+use Rattle.nanocore.specs.declared.answer.StepRefusal.TheVariants.{AlreadyHalted, CountFull}
+use Rattle.nanocore.specs.declared.answer.RunRefusal.{RunRefusal}
+use Rattle.nanocore.specs.declared.answer.RunRefusal.TheVariants.{LimitReached}
+use Rattle.nanocore.specs.declared.answer.TooLong.{TooLong}
+use Rattle.nanocore.specs.declared.answer.NoImage.{NoImage}
+use Rattle.nanocore.specs.declared.answer.Outcome.{Outcome}
+use Rattle.nanocore.specs.declared.answer.Handed.{Handed}
 use Rattle.nanocore.specs.Load.{Loading}
 use Rattle.nanocore.specs.Step.{Answered, situated}
 use Rattle.nanocore.specs.Transfer.{Transferring}
 
-abbrev pub step_number : StepAnswer → List ℕ
-step_number Stepped = 0 ∷ []
-step_number StepAnswer.Halted = 1 ∷ []
-step_number AlreadyHalted = 2 ∷ []
-step_number (StepAnswer.Refused f) = fault_number f
-step_number CountFull = 9 ∷ []
+abbrev pub step_number : Result Completed StepRefusal → List ℕ
+step_number (Ok Stepped) = 0 ∷ []
+step_number (Ok Halted) = 1 ∷ []
+step_number (Err AlreadyHalted) = 2 ∷ []
+step_number (Err (StepRefusal.Fault f)) = fault_number f
+step_number (Err CountFull) = 9 ∷ []
 
-abbrev pub run_number : RunAnswer → List ℕ
-run_number RunAnswer.Halted = 1 ∷ []
-run_number (RunAnswer.Refused f) = fault_number f
-run_number (LimitReached limit) = 10 ∷ limit ∷ []
+abbrev pub run_number : Result Unit RunRefusal → List ℕ
+run_number (Ok halted) = 1 ∷ []
+run_number (Err (RunRefusal.Fault f)) = fault_number f
+run_number (Err (LimitReached limit)) = 10 ∷ limit ∷ []
 
-abbrev pub load_number : LoadAnswer → List ℕ
-load_number Loaded = 0 ∷ []
-load_number (TooLong length start) = 11 ∷ length ∷ start ∷ []
+abbrev pub load_number : Result Unit TooLong → List ℕ
+load_number (Ok loaded) = 0 ∷ []
+load_number (Err e) = 11 ∷ e.length ∷ e.start ∷ []
 
-abbrev pub transfer_number : TransferAnswer → List ℕ
-transfer_number Transferred = 0 ∷ []
-transfer_number NoImage = 19 ∷ []
+abbrev pub transfer_number : Result Unit NoImage → List ℕ
+transfer_number (Ok transferred) = 0 ∷ []
+transfer_number (Err e) = 19 ∷ []
 
 -- what a caller has afterwards: the outcome, and the bytes of the lent buffer
-abbrev pub stepping : StepOutcome → List ℕ → Answered
+abbrev pub stepping : Outcome (Result Completed StepRefusal) → List ℕ → Answered
 stepping r output =
     record { answer = step_number r.answer; after = situated r.machine r.place output r.written }
 
-abbrev pub running : RunOutcome → List ℕ → Answered
+abbrev pub running : Outcome (Result Unit RunRefusal) → List ℕ → Answered
 running r output =
     record { answer = run_number r.answer; after = situated r.machine r.place output r.written }
 
-abbrev pub loading : LoadOutcome → Loading
+abbrev pub loading : Handed (Result Unit TooLong) → Loading
 loading r = record { answer = load_number r.answer; machine = r.machine }
 
-abbrev pub transferring : TransferOutcome → Transferring
+abbrev pub transferring : Handed (Result Unit NoImage) → Transferring
 transferring r = record { answer = transfer_number r.answer; machine = r.machine }

@@ -1,61 +1,59 @@
-// What step, run, load and transfer answer. An enum may hold no array, so the machine stands beside the answer.
+// What step, run, load and transfer answer.
 use crate::machine::Machine;
 use effect::Fault;
 
+// How a completed step left the machine.
 #[derive(Clone, Copy)]
-pub enum StepAnswer {
+pub enum Completed {
     Stepped,
     Halted,
+}
+
+#[derive(Clone, Copy)]
+pub enum StepRefusal {
     AlreadyHalted,
-    Refused(Fault),
+    Fault(Fault),
     CountFull,
 }
 
-// The machine, the input's place and the number of output bytes written, as the step leaves them.
-#[derive(Clone, Copy)]
-pub struct StepOutcome {
-    pub answer: StepAnswer,
-    pub machine: Machine,
-    pub place: usize,
-    pub written: usize,
-}
+pub type StepAnswer = Result<Completed, StepRefusal>;
 
 #[derive(Clone, Copy)]
-pub enum RunAnswer {
-    Halted,
-    Refused(Fault),
+pub enum RunRefusal {
+    Fault(Fault),
     LimitReached(u16),
 }
 
-// As of the last completed step, or of the start where none completed.
+// A run that is not refused came to a halt.
+pub type RunAnswer = Result<(), RunRefusal>;
+
+// The program does not fit from its start on.
 #[derive(Clone, Copy)]
-pub struct RunOutcome {
-    pub answer: RunAnswer,
+pub struct TooLong {
+    pub length: usize,
+    pub start: u8,
+}
+
+pub type LoadAnswer = Result<(), TooLong>;
+
+// The image or its marks are not 256 bytes.
+#[derive(Clone, Copy)]
+pub struct NoImage;
+
+pub type TransferAnswer = Result<(), NoImage>;
+
+// The machine, the input's place and the number of output bytes written, as of the last completed step, or as found where none completed.
+#[derive(Clone, Copy)]
+pub struct Outcome<A> {
+    pub answer: A,
     pub machine: Machine,
     pub place: usize,
     pub written: usize,
 }
 
+// The machine as it is handed back; as found where the answer refuses.
 #[derive(Clone, Copy)]
-pub enum LoadAnswer {
-    Loaded,
-    TooLong { length: usize, start: u8 },
-}
-
-#[derive(Clone, Copy)]
-pub struct LoadOutcome {
-    pub answer: LoadAnswer,
-    pub machine: Machine,
-}
-
-#[derive(Clone, Copy)]
-pub enum TransferAnswer {
-    Transferred,
-    NoImage,
-}
-
-#[derive(Clone, Copy)]
-pub struct TransferOutcome {
-    pub answer: TransferAnswer,
+pub struct Handed<A> {
+    pub answer: A,
     pub machine: Machine,
 }

@@ -3,32 +3,25 @@ ghost use Rattle.std.specs.Prelude.{◌≡◌};
 ghost use Rattle.nanocore.specs.Load.{load_of};
 ghost use Rattle.nanocore.specs.Numbers.{loading};
 
-use crate::answer::{LoadAnswer, LoadOutcome};
+use crate::answer::{Handed, LoadAnswer, TooLong};
 use crate::machine::Machine;
 
 impl Machine {
-    pub fn load(mut self, program: &[u8], start: u8) -> LoadOutcome
+    pub fn load(mut self, program: &[u8], start: u8) -> Handed<LoadAnswer>
         ensures { loading result ≡ load_of self program.now start }
     {
         let length = program.len();
-        let from = start as usize;
+        let from = usize::from(start);
         if 256 - from < length {
-            return LoadOutcome {
-                answer: LoadAnswer::TooLong {
-                    length: length,
-                    start: start,
-                },
+            return Handed {
+                answer: Err(TooLong { length, start }),
                 machine: self,
             };
         }
-        let mut i: usize = 0;
-        while i < length {
-            self.memory[from + i] = program[i];
-            i += 1;
-        }
+        self.memory[from..from + length].copy_from_slice(program);
         self.pc = start;
-        LoadOutcome {
-            answer: LoadAnswer::Loaded,
+        Handed {
+            answer: Ok(()),
             machine: self,
         }
     }

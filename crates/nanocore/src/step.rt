@@ -4,7 +4,7 @@ ghost use Rattle.nanocore.specs.Machine.{most_count};
 ghost use Rattle.nanocore.specs.Numbers.{stepping};
 ghost use Rattle.nanocore.specs.Step.{situated, step_of};
 
-use crate::answer::{StepAnswer, StepOutcome};
+use crate::answer::{Outcome, StepAnswer, StepRefusal};
 use crate::machine::{MAX_COUNT, Machine};
 use crate::turns::turns;
 
@@ -24,7 +24,7 @@ fn at_full_count(
     place: usize,
     output: &[u8],
     written: usize,
-) -> StepOutcome
+) -> Outcome<StepAnswer>
     requires { (machine.halted ≡ false) × (machine.count ≡ most_count) }
     ensures { stepping result output.now ≡ step_of input.now (situated machine place output.now written) }
 {
@@ -33,35 +33,39 @@ fn at_full_count(
     let mut scratch = [0u8; 1];
     let room = written < output.len();
     let tried = turns(early, 1, input, place, &mut scratch, used(room));
-    let answer = tried.answer;
-    let end = tried.machine;
-    if 0 < end.count {
-        return StepOutcome {
-            answer: StepAnswer::CountFull,
-            machine: machine,
-            place: place,
-            written: written,
+    if 0 < tried.machine.count {
+        return Outcome {
+            answer: Err(StepRefusal::CountFull),
+            machine,
+            place,
+            written,
         };
     }
-    machine.halted = end.halted;
-    StepOutcome {
-        answer: answer,
-        machine: machine,
-        place: place,
-        written: written,
+    machine.halted = tried.machine.halted;
+    Outcome {
+        answer: tried.answer,
+        machine,
+        place,
+        written,
     }
 }
 
 impl Machine {
-    pub fn step(self, input: &[u8], place: usize, output: &mut [u8], written: usize) -> StepOutcome
+    pub fn step(
+        self,
+        input: &[u8],
+        place: usize,
+        output: &mut [u8],
+        written: usize,
+    ) -> Outcome<StepAnswer>
         ensures { stepping result output.new ≡ step_of input.now (situated self place output.old written) }
     {
         if self.halted {
-            return StepOutcome {
-                answer: StepAnswer::AlreadyHalted,
+            return Outcome {
+                answer: Err(StepRefusal::AlreadyHalted),
                 machine: self,
-                place: place,
-                written: written,
+                place,
+                written,
             };
         }
         if self.count == MAX_COUNT {

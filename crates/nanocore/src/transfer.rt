@@ -3,31 +3,23 @@ ghost use Rattle.std.specs.Prelude.{◌≡◌};
 ghost use Rattle.nanocore.specs.Numbers.{transferring};
 ghost use Rattle.nanocore.specs.Transfer.{transfer_of};
 
-use crate::answer::{TransferAnswer, TransferOutcome};
+use crate::answer::{Handed, NoImage, TransferAnswer};
 use crate::machine::Machine;
 use fields::overlay::overlay;
 
 impl Machine {
-    pub fn transfer(mut self, image: &[u8], marks: &[u8]) -> TransferOutcome
+    pub fn transfer(mut self, image: &[u8], marks: &[u8]) -> Handed<TransferAnswer>
         ensures { transferring result ≡ transfer_of self image.now marks.now }
     {
-        if image.len() != 256 {
-            return TransferOutcome {
-                answer: TransferAnswer::NoImage,
+        if image.len() != 256 || marks.len() != 256 {
+            return Handed {
+                answer: Err(NoImage),
                 machine: self,
             };
         }
-        if marks.len() != 256 {
-            return TransferOutcome {
-                answer: TransferAnswer::NoImage,
-                machine: self,
-            };
-        }
-        let bytes = self.memory;
-        let memory = overlay(bytes, image, marks);
-        self.memory = memory;
-        TransferOutcome {
-            answer: TransferAnswer::Transferred,
+        self.memory = overlay(self.memory, image, marks);
+        Handed {
+            answer: Ok(()),
             machine: self,
         }
     }

@@ -6,7 +6,7 @@ ghost use Rattle.nanocore.specs.Step.{situated};
 ghost use Rattle.nanocore.specs.Turns.{awake, ended_with, turns_of};
 ghost use Rattle.nanocore.specs.Numbers.{stepping};
 
-use crate::answer::{StepAnswer, StepOutcome};
+use crate::answer::{Completed, Outcome, StepAnswer, StepRefusal};
 use crate::machine::Machine;
 use crate::write::{write_memory, write_output, write_register};
 use effect::Turn;
@@ -29,18 +29,18 @@ fn ended(
     core: Core,
     halted: bool,
     tally: Tally,
-) -> StepOutcome
+) -> Outcome<StepAnswer>
     ensures { result ≡ ended_with answer registers memory core halted tally }
 {
-    StepOutcome {
-        answer: answer,
+    Outcome {
+        answer,
         machine: Machine {
-            registers: registers,
-            memory: memory,
+            registers,
+            memory,
             pc: core.pc,
             sp: core.sp,
             flags: core.flags,
-            halted: halted,
+            halted,
             count: tally.count,
             limit: tally.limit,
         },
@@ -58,7 +58,7 @@ pub fn turns(
     place: usize,
     output: &mut [u8],
     written: usize,
-) -> StepOutcome
+) -> Outcome<StepAnswer>
     requires { machine.count + most ≤ most_count }
     ensures { stepping result output.new ≡ turns_of most input.now (situated (awake machine) place output.old written) }
 {
@@ -68,31 +68,25 @@ pub fn turns(
         pc: machine.pc,
         sp: machine.sp,
         flags: machine.flags,
-        place: place,
+        place,
     };
     let mut tally = Tally {
         count: machine.count,
         limit: machine.limit,
-        written: written,
+        written,
     };
     let mut left = most;
     while 0 < left {
         let room = tally.written < output.len();
         match turn(&registers, &memory, core, input, room) {
-            Turn::Refused(fault) => {
-                return ended(
-                    StepAnswer::Refused(fault),
-                    registers,
-                    memory,
-                    core,
-                    false,
-                    tally,
-                );
+            Err(fault) => {
+                let refused = Err(StepRefusal::Fault(fault));
+                return ended(refused, registers, memory, core, false, tally);
             }
-            Turn::Halt => {
-                return ended(StepAnswer::Halted, registers, memory, core, true, tally);
+            Ok(Turn::Halt) => {
+                return ended(Ok(Completed::Halted), registers, memory, core, true, tally);
             }
-            Turn::Done(effect) => {
+            Ok(Turn::Done(effect)) => {
                 let write = effect.write;
                 write_register(write, &mut registers);
                 write_memory(write, &mut memory);
@@ -108,5 +102,12 @@ pub fn turns(
             }
         }
     }
-    ended(StepAnswer::Stepped, registers, memory, core, false, tally)
+    ended(
+        Ok(Completed::Stepped),
+        registers,
+        memory,
+        core,
+        false,
+        tally,
+    )
 }

@@ -1,5 +1,5 @@
 -- Laws of a turn that the machine cites.
-use Rattle.std.proofs.Common.{◌≡◌, ℕ, ◌+◌, ◌%◌, ◌≤◌, Bool, true, false, ◌&&◌, T, eqb, leb, List, [], ◌∷◌, get_or, sym, refl, ap, ◌∙◌, arith, leb→le, eqb-true}
+use Rattle.std.proofs.Common.{◌≡◌, ℕ, ◌+◌, ◌%◌, ◌≤◌, Bool, true, false, ◌&&◌, T, eqb, leb, List, [], ◌∷◌, Option, Some, None, get_or, sym, refl, ap, ◌∙◌, arith, leb→le, eqb-true}
 use Rattle.byte.proofs.Below.{both}
 use Rattle.effect.specs.declared.Effect.{Effect}
 use Rattle.byte.specs.Flags.{zn, with_carry}
@@ -7,8 +7,6 @@ use Rattle.effect.specs.Numbers.{number_of}
 use Rattle.effect.specs.Effects.{kept, loaded, flagged, jumped, pushed, Before, nothing, halts, fault, crowded, done, refused, fate_by, prints}
 use Rattle.op.specs.declared.operation.Op.{Op}
 use Rattle.op.specs.declared.operation.Op.TheVariants.{PRINT}
-use Rattle.op.specs.declared.operation.Lookup.{Lookup}
-use Rattle.op.specs.declared.operation.Lookup.TheVariants.{Found, Unknown}
 use Rattle.op.specs.Operations.{byte_of, decoded, form_of}
 use Rattle.op.proofs.Laws.{each, ◌&◌, agree, byte_injective}
 use Rattle.instruction.specs.declared.operands.Operands.{Operands}
@@ -48,13 +46,13 @@ own_numbers_lem : (x y : ℕ) (v : View) (o : Op) → own_numbers (before_of o x
 own_numbers_lem x y v = agree (λ o. own_numbers (before_of o x y v)) (λ o. true) refl
 
 module _ (v : View) (n : List ℕ) where
-  refused_at_lem : (l : Lookup) (one two three : ℕ) → fate_at (decoding_of l one two three) v ≡ refused n → (3 ≤ number_of n) × (number_of n ≤ 8)
+  refused_at_lem : (l : Option Op) (one two three : ℕ) → fate_at (decoding_of l one two three) v ≡ refused n → (3 ≤ number_of n) × (number_of n ≤ 8)
   unfolding fate_of
-  refused_at_lem (Found o) one two three h =
+  refused_at_lem (Some o) one two three h =
       let x = first_of (operands_of (form_of o) two three) in
       let y = second_of (operands_of (form_of o) two three) in
       refused_own (before_of o x y v) (effect_of o x y v) n (rw (own_numbers_lem x y v o) tt) h
-  refused_at_lem Unknown one two three h =
+  refused_at_lem None one two three h =
       let same : 3 ∷ one ∷ v.core.pc ∷ [] ≡ n = cc in
       rw (← same) (omega arith)
 

@@ -11,7 +11,7 @@ use byte::arithmetic::{
 use byte::flags::{FLAG_Z, get_flag};
 use byte::shift::{rotate_left, rotate_right, shift_left, shift_right};
 use effect::moves::Core;
-use effect::{Effect, Fault, Turn, Write};
+use effect::{Fault, Turn, Write};
 use op::operation::Op;
 
 // Byte three, read only by the operations that have one: at every fetch it would cost those that do not.
@@ -43,16 +43,16 @@ pub fn execute(
     let s = second % 16;
     let at_d = registers[usize::from(d)];
     let at_s = registers[usize::from(s)];
-    match op {
-        Op::HLT => Turn::Halt,
+    let effect = match op {
+        Op::HLT => return Ok(Turn::Halt),
         Op::NOP => core.keep(1, Write::Nothing),
         Op::LDI => core.load(3, s, third(memory, pc)),
         Op::LDA => core.load_from(3, s, memory, third(memory, pc)),
         Op::LDR => core.load_from(2, d, memory, at_s),
         Op::MOV => core.load(2, d, at_s),
         Op::STORE => core.keep(3, Write::Memory(third(memory, pc), at_s)),
-        Op::PUSH => core.push(at_s),
-        Op::POP => core.pop(s, memory),
+        Op::PUSH => core.push(at_s)?,
+        Op::POP => core.pop(s, memory)?,
         Op::ADD => core.result(2, d, overflowing_add(at_d, at_s)),
         Op::ADDI => core.result(3, s, overflowing_add(at_s, third(memory, pc))),
         Op::SUB => core.result(2, d, overflowing_sub(at_d, at_s)),
@@ -69,26 +69,27 @@ pub fn execute(
         Op::JMP => core.jump(second),
         Op::JZ => core.branch(second, get_flag(core.flags, FLAG_Z)),
         Op::JNZ => core.branch(second, !get_flag(core.flags, FLAG_Z)),
-        Op::PRINT => core.print(at_s, room),
+        Op::PRINT => core.print(at_s, room)?,
         Op::MUL => core.result(2, d, overflowing_mul(at_d, at_s)),
         Op::MULI => core.result(3, s, overflowing_mul(at_s, third(memory, pc))),
-        Op::DIV => core.divide(0x1C, at_s, 2, d, overflowing_div(at_d, at_s)),
+        Op::DIV => core.divide(0x1C, at_s, 2, d, overflowing_div(at_d, at_s))?,
         Op::DIVI => {
             let by = third(memory, pc);
-            core.divide(0x1D, by, 3, s, overflowing_div(at_s, by))
+            core.divide(0x1D, by, 3, s, overflowing_div(at_s, by))?
         },
-        Op::MOD => core.divide(0x1E, at_s, 2, d, overflowing_rem(at_d, at_s)),
+        Op::MOD => core.divide(0x1E, at_s, 2, d, overflowing_rem(at_d, at_s))?,
         Op::MODI => {
             let by = third(memory, pc);
-            core.divide(0x1F, by, 3, s, overflowing_rem(at_s, by))
+            core.divide(0x1F, by, 3, s, overflowing_rem(at_s, by))?
         },
-        Op::CALL => core.call(second),
-        Op::RET => core.ret(memory),
+        Op::CALL => core.call(second)?,
+        Op::RET => core.ret(memory)?,
         Op::ROL => core.result(2, s, rotate_left(at_s)),
         Op::ROR => core.result(2, s, rotate_right(at_s)),
-        Op::IN => core.take(s, input),
+        Op::IN => core.take(s, input)?,
         Op::JMPR => core.jump(at_s),
-        Op::CALLR => core.call(at_s),
+        Op::CALLR => core.call(at_s)?,
         Op::STR => core.keep(2, Write::Memory(at_s, at_d)),
-    }
+    };
+    Ok(Turn::Done(effect))
 }

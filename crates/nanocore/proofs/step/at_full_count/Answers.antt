@@ -2,10 +2,10 @@
 use Rattle.nanocore.proofs.RunLaws.{step_rose, step_stayed}
 use Rattle.nanocore.proofs.step.at_full_count.Goals as goal
 
-pub returns-then-end-gt0 : goal.returns-then-end-gt0
-returns-then-end-gt0 c =
-    step_rose _ _ _ _ _ c.requires.0 c.requires.1 _ _ c.used.ensures c.turns-tried.result _ c.turns-tried.ensures c.if-end-gt0.true
+pub returns-then-tried-gt0 : goal.returns-then-tried-gt0
+returns-then-tried-gt0 c =
+    step_rose _ _ _ _ _ c.requires.0 c.requires.1 _ _ c.used.ensures c.turns-tried.result _ c.turns-tried.ensures c.if-tried-gt0.true
 
 pub returns : goal.returns
 returns c =
-    step_stayed _ _ _ _ _ c.requires.0 c.requires.1 _ _ c.used.ensures c.turns-tried.result _ c.turns-tried.ensures c.if-end-gt0.false
+    step_stayed _ _ _ _ _ c.requires.0 c.requires.1 _ _ c.used.ensures c.turns-tried.result _ c.turns-tried.ensures c.if-tried-gt0.false

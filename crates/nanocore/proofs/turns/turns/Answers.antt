@@ -1,28 +1,31 @@
 -- Each arm is what the law of its turn says, of the situation that the locals make.
-use Rattle.std.proofs.Common.{sym, ◌∙◌, ap, arith, rules}
+use Rattle.std.proofs.Common.{◌≡◌, Ok, sym, ◌∙◌, ap, arith, rules}
 use borrow.Author.Tests.{ltb-true}
+use Rattle.effect.specs.declared.Turn.TheVariants.{Done}
 use Rattle.effect.specs.Numbers.{fate}
 use Rattle.turn.proofs.Laws.{prints_room}
 use Rattle.nanocore.proofs.TurnLaws.{turns_none, turns_refused, turns_halted, turns_done}
 use Rattle.nanocore.proofs.turns.turns.Invariants.{here}
 use Rattle.nanocore.proofs.turns.turns.Goals as goal
 
-pub returns-in-Refused : goal.returns-in-Refused
-returns-in-Refused c =
+pub returns-in-Err : goal.returns-in-Err
+returns-in-Err c =
     let at = c.loop-left in
     let s = here at.registers at.memory at.core at.tally at.output in
     rw c.ended.ensures
-    (turns_refused c.args.input.now s at.left at.invariant.3 c.loop-left-test.true _ c.turn.ensures _ c.in-Refused.is)
+    (turns_refused c.args.input.now s at.left at.invariant.3 c.loop-left-test.true c.turn.result c.turn.ensures _ c.in-Err.is)
 
-pub returns-in-Halt : goal.returns-in-Halt
-returns-in-Halt c =
+pub returns-in-Ok-Halt : goal.returns-in-Ok-Halt
+returns-in-Ok-Halt c =
     let at = c.loop-left in
     let s = here at.registers at.memory at.core at.tally at.output in
-    rw c.ended-in-Halt.ensures
-    (turns_halted c.args.input.now s at.left at.invariant.3 c.loop-left-test.true _ c.turn.ensures c.in-Halt.is)
+    rw c.ended-in-Ok-Halt.ensures
+    (turns_halted c.args.input.now s at.left at.invariant.3 c.loop-left-test.true c.turn.result c.turn.ensures (cc))
 
 pub write_output-requires : goal.write_output-requires
-write_output-requires c = λ p. ltb-true _ _ (prints_room _ _ (sym c.turn.ensures ∙ ap fate c.in-Done.is) p)
+write_output-requires c =
+    let done : c.turn.result ≡ Ok (Done c.in-Ok-Done.effect) = cc in
+    λ p. ltb-true _ _ (prints_room _ _ (sym c.turn.ensures ∙ ap fate done) p)
 
 pub loop-left-preserved : goal.loop-left-preserved
 loop-left-preserved c =
@@ -32,7 +35,7 @@ loop-left-preserved c =
       c.write_register.array_long,
       omega arith,
       rw (c.write_register.ensures, c.write_memory.ensures, c.write_output.ensures.0, c.write_output.ensures.1)
-          (turns_done c.args.input.now s at.left at.invariant.3 c.loop-left-test.true _ c.turn.ensures _ c.in-Done.is (omega arith)),
+          (turns_done c.args.input.now s at.left at.invariant.3 c.loop-left-test.true c.turn.result c.turn.ensures c.in-Ok-Done.effect (cc) (omega arith)),
     )
 
 pub returns : goal.returns

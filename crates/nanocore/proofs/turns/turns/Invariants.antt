@@ -1,7 +1,7 @@
 -- The turns that are left, from here, come to what all of them come to from the start.
-use Rattle.std.proofs.Common.{◌≡◌, ℕ, ◌+◌, ◌≤◌, false, List, length}
+use Rattle.std.proofs.Common.{◌≡◌, ℕ, ◌+◌, ◌≤◌, false, List, length, Ok}
 use Rattle.effect.specs.declared.moves.Core.{Core}
-use Rattle.nanocore.specs.declared.answer.StepAnswer.TheVariants.{Stepped}
+use Rattle.nanocore.specs.declared.answer.Completed.TheVariants.{Stepped}
 use Rattle.nanocore.specs.declared.turns.Tally.{Tally}
 use Rattle.nanocore.specs.Machine.{most_count}
 use Rattle.nanocore.specs.Numbers.{stepping}
@@ -12,7 +12,7 @@ use Rattle.nanocore.proofs.turns.turns.Given as goal
 -- the situation that the locals make
 abbrev pub here : List ℕ → List ℕ → Core → Tally → List ℕ → Situation
 here registers memory core tally output =
-    (stepping (ended_with Stepped registers memory core false tally) output).after
+    (stepping (ended_with (Ok Stepped) registers memory core false tally) output).after
 
 abbrev pub invariant-loop-left : goal.invariant-loop-left
 invariant-loop-left l =
