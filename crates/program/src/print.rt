@@ -1,23 +1,9 @@
 // What the programs of the gate print. Whether it was written is not asked: what is missing differs from what the gate expects.
 use std::rt::{Env, Stdout};
-use text::line::Line;
 
-pub fn text(out: Stdout, bytes: &[u8]) {
-    first(out, bytes, bytes.len());
-}
-
-// So many bytes from the start on.
-pub fn first(mut out: Stdout, bytes: &[u8], count: usize) {
-    let _ = files::write(&mut out, bytes, count);
-}
-
-pub fn line(out: Stdout, line: Line) {
-    let bytes = line.bytes;
-    first(out, &bytes, line.length);
-}
-
-pub fn number(out: Stdout, n: usize) {
-    let _ = out.print(n);
+// Bytes as they are: a name from an argument need not be UTF-8.
+pub fn text(mut out: Stdout, bytes: &[u8]) {
+    let _ = files::write(&mut out, bytes);
 }
 
 // The i-th argument, nothing where there is none.

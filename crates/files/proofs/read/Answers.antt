@@ -1,17 +1,28 @@
-use Rattle.std.proofs.Common.{arith, ◌≡◌, ◌+◌, ◌++◌, ℕ, List, take, drop, sym, ap, ◌∙◌, subst}
+use Rattle.std.proofs.Common.{rules, ◌≡◌, ◌+◌, ◌≤◌, ◌++◌, ℕ, List, length, take, sym, subst}
 use Rattle.std.specs.declared.option.Option.{Option}
 use Rattle.std.specs.Io.KnownBytes.{Consumes}
 use Rattle.std.proofs.KnownBytes.{Consumes-trans}
+use Rattle.std.proofs.Math.Seq.{take-append-add}
+use Rattle.std.proofs.lemmas.List.{length-take-le, take-append-le}
+use borrow.Rule.Slice.PartMut.{post_of, put_mid}
 use Rattle.files.proofs.read.Goals as goal
 
--- what was read before, and then a read that gave nothing
-and_nothing : (a b c : Option (List ℕ)) (n m : ℕ) (old new : List ℕ) → m ≡ 0 → Consumes a b (take n old) → Consumes b c (take m (drop n new))
-    → take (n + m) new ≡ take n old ++ take m (drop n new) → Consumes a c (take n new)
-and_nothing a b c n m old new none first next joined =
-    let same : n + m ≡ n = omega (arith, none) in
-    subst (Consumes a c) (sym joined ∙ ap (λ k. take k new) same) (Consumes-trans a b c (take n old) (take m (drop n new)) first next)
+-- what stands in the buffer after one read more
+take_more : (n m k : ℕ) (old new : List ℕ) → n ≤ length old → m ≤ length new → take (n + m) (put_mid n k old new) ≡ take n old ++ take m new
+take_more n m k old new within fits =
+    let rest = post_of n k old in
+    let front = length-take-le n old within in
+    let joined = take-append-add (take n old) (new ++ rest) m in
+    let back = take-append-le m new rest fits in
+    cc
 
-pub returns-then-got-clause-next : goal.returns-then-got-clause-next
-returns-then-got-clause-next g c =
-    let got = c.read_more-got in
-    and_nothing _ _ _ c.loop-count.count got.result.count c.loop-count.buffer got.new.buffer (got.ensures.none c.if-got.true) c.loop-count.invariant.2 got.ensures.next got.ensures.before
+-- what was read before, and then one read more
+read_more : (a b c : Option (List ℕ)) (n m k : ℕ) (old new : List ℕ) → n ≤ length old → m ≤ length new
+    → Consumes a b (take n old) → Consumes b c (take m new) → Consumes a c (take (n + m) (put_mid n k old new))
+read_more a b c n m k old new within fits before more =
+    subst (Consumes a c) (sym (take_more n m k old new within fits)) (Consumes-trans a b c (take n old) (take m new) before more)
+
+pub loop-count-preserved : goal.loop-count-preserved
+loop-count-preserved g c =
+    let fits = c.in-Ok.ensures.bound.0 in
+    (search rules, read_more _ _ _ c.loop-count.count c.in-Ok.more _ c.loop-count.buffer c.read.new.buf c.loop-count.invariant.0 fits c.loop-count.invariant.1 c.in-Ok.ensures.bytes.0)
