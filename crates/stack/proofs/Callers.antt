@@ -2,9 +2,12 @@
 use mathlib.Core.Path.{◌≡◌, sym, subst}
 use mathlib.Core.List.{List}
 use Prim.Native.Nat.{ℕ, ◌≤◌}
+use Rattle.std.specs.Prelude.{Result}
 use native.Mathlib.Omega.{arith}
-use Rattle.nanocore.specs.declared.answer.RunOutcome.{RunOutcome}
-use Rattle.nanocore.specs.declared.answer.StepOutcome.{StepOutcome}
+use Rattle.nanocore.specs.declared.answer.Completed.{Completed}
+use Rattle.nanocore.specs.declared.answer.Outcome.{Outcome}
+use Rattle.nanocore.specs.declared.answer.RunRefusal.{RunRefusal}
+use Rattle.nanocore.specs.declared.answer.StepRefusal.{StepRefusal}
 use Rattle.nanocore.specs.declared.machine.Machine.{Machine}
 use Rattle.nanocore.specs.Numbers.{stepping, running}
 use Rattle.nanocore.specs.Run.{run_of}
@@ -35,16 +38,16 @@ left input s sized range =
 
 module _ (input : List ℕ) (m : Machine) (place : ℕ) (output : List ℕ) (written : ℕ) (out : List ℕ) where
   -- of every machine, its sp in range or not
-  pub step_alters : (r : StepOutcome) → stepping r out ≡ step_of input (situated m place output written) → Altered m r.machine
+  pub step_alters : (r : Outcome (Result Completed StepRefusal)) → stepping r out ≡ step_of input (situated m place output written) → Altered m r.machine
   step_alters r e =
       subst (λ x. Altered m x.after.machine) (sym e) (step_altered input (situated m place output written))
 
   module _ (sized : Sized m) (range : InRange m) where
-    pub step_left : (r : StepOutcome) → stepping r out ≡ step_of input (situated m place output written) → StepLeft m (stepping r out)
+    pub step_left : (r : Outcome (Result Completed StepRefusal)) → stepping r out ≡ step_of input (situated m place output written) → StepLeft m (stepping r out)
     step_left r e = rw e (one_step input (situated m place output written) sized range)
 
     pub run_left :
-        (r : RunOutcome) → running r out ≡ run_of input (situated m place output written) →
+        (r : Outcome (Result Unit RunRefusal)) → running r out ≡ run_of input (situated m place output written) →
         RunLeft input (situated m place output written) (running r out).after
     run_left r e =
         let s = situated m place output written in

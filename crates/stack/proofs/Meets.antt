@@ -9,14 +9,13 @@ use lib.Dec.{eqb}
 use lib.ListN.{get_or, set}
 use lib.Seq.{get_or-set_same}
 use borrow.Author.Tests.{eqb-false, lt-leb}
+use Rattle.std.specs.Prelude.{Option, Some, None}
 use Rattle.byte.specs.Arithmetic.{wrapped_sub}
 use Rattle.effect.specs.declared.moves.Core.{Core}
 use Rattle.effect.specs.declared.Effect.{Effect}
 use Rattle.effect.specs.Effects.{kept, loaded, flagged, jumped, pushed, Before, nothing, halts, fault, full, empty, done, halt, fate_by}
 use Rattle.effect.specs.Numbers.{number_of}
 use Rattle.op.specs.declared.operation.Op.{Op}
-use Rattle.op.specs.declared.operation.Lookup.{Lookup}
-use Rattle.op.specs.declared.operation.Lookup.TheVariants.{Found, Unknown}
 use Rattle.op.specs.Operations.{decoded, form_of}
 use Rattle.op.proofs.Laws.{each, ◌&◌, agree}
 use Rattle.instruction.specs.Decode.{decoding_of, decoded_of}
@@ -114,10 +113,10 @@ Stacked m n ev = Allowed m.sp ev × MetBy m n ev
 module _ (input : List ℕ) (s : Situation) (sized : Sized s.machine) where
   -- by what the opcode stands for
   done_stacked :
-      (l : Lookup) (one two three : ℕ) (e : Effect) → fate_at (decoding_of l one two three) (view_of input s) ≡ done e →
+      (l : Option Op) (one two three : ℕ) (e : Effect) → fate_at (decoding_of l one two three) (view_of input s) ≡ done e →
       Stacked s.machine (applied e s).machine (event_if true (decoding_of l one two three) s.machine (applied e s).machine)
   unfolding fate_of
-  done_stacked (Found o) one two three e h =
+  done_stacked (Some o) one two three e h =
       let x = first_of (operands_of (form_of o) two three) in
       let y = second_of (operands_of (form_of o) two three) in
       let own = effect_of o x y (view_of input s) in
@@ -125,18 +124,18 @@ module _ (input : List ℕ) (s : Situation) (sized : Sized s.machine) where
       let after = (applied own s).machine in
       let free = allowed (view_of input s).core (event_by o x y s.machine after) before own e (rw (← asked_own x y (view_of input s) s.machine after o) h) in
       rw (← done_effect before own e h) (free, own_met input s two three sized o)
-  done_stacked Unknown one two three e h = let z : ◌≡◌ {A = ℕ} 0 1 = cc in absurd (omega arith)
+  done_stacked None one two three e h = let z : ◌≡◌ {A = ℕ} 0 1 = cc in absurd (omega arith)
 
   halt_other :
-      (l : Lookup) (one two three : ℕ) (n : Machine) → fate_at (decoding_of l one two three) (view_of input s) ≡ halt →
+      (l : Option Op) (one two three : ℕ) (n : Machine) → fate_at (decoding_of l one two three) (view_of input s) ≡ halt →
       event_if true (decoding_of l one two three) s.machine n ≡ other
   unfolding fate_of
-  halt_other (Found o) one two three n h =
+  halt_other (Some o) one two three n h =
       let x = first_of (operands_of (form_of o) two three) in
       let y = second_of (operands_of (form_of o) two three) in
       spared_own x y (view_of input s) s.machine n o
       ∙ halts_spared (before_of o x y (view_of input s)) (effect_of o x y (view_of input s)) _ h
-  halt_other Unknown one two three n h = refl
+  halt_other None one two three n h = refl
 
   pub step_stacked : Stacked s.machine (step_of input s).after.machine (event_of s.machine (step_of input s))
   unfolding turn_of decoded_of
