@@ -7,7 +7,7 @@ use crate::number::{load_number, run_number, step_number};
 use answer_number::Numbered;
 use nanocore::machine::Machine;
 
-#[derive(Clone, Copy)]
+#[derive(Clone, Copy, PartialEq, Eq, Debug)]
 pub enum Kind {
     Step,
     Run,
@@ -37,26 +37,22 @@ pub fn ask(
 {
     match kind {
         Kind::Step => {
-            let outcome = machine.step(input, place, output, written);
-            let answer = outcome.answer;
-            let after = outcome.machine;
-            let number = step_number(answer);
-            of(number, after, outcome.place, outcome.written)
-        },
+            let stepped = machine.step(input, place, output, written);
+            of(
+                step_number(stepped.answer),
+                stepped.machine,
+                stepped.place,
+                stepped.written,
+            )
+        }
         Kind::Run => {
-            let outcome = machine.run(input, place, output, written);
-            let answer = outcome.answer;
-            let after = outcome.machine;
-            let number = run_number(answer);
-            of(number, after, outcome.place, outcome.written)
-        },
+            let ran = machine.run(input, place, output, written);
+            of(run_number(ran.answer), ran.machine, ran.place, ran.written)
+        }
         Kind::Load => {
-            let outcome = machine.load(input, (place % 256) as u8);
-            let answer = outcome.answer;
-            let after = outcome.machine;
-            let number = load_number(answer);
-            of(number, after, place, written)
-        },
+            let loaded = machine.load(input, (place % 256) as u8);
+            of(load_number(loaded.answer), loaded.machine, place, written)
+        }
     }
 }
 
@@ -71,16 +67,16 @@ pub fn of(number: Numbered, machine: Machine, place: usize, written: usize) -> A
             number.number,
             number.first,
             number.second,
-            machine.pc as usize,
-            machine.sp as usize,
-            machine.flags as usize,
-            machine.halted as usize,
-            machine.count as usize,
-            machine.limit as usize,
+            usize::from(machine.pc),
+            usize::from(machine.sp),
+            usize::from(machine.flags),
+            usize::from(machine.halted),
+            usize::from(machine.count),
+            usize::from(machine.limit),
             place,
             written,
         ],
-        registers: registers,
-        memory: memory,
+        registers,
+        memory,
     }
 }

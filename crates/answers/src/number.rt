@@ -6,16 +6,19 @@ ghost use Rattle.nanocore.specs.Numbers.{step_number, run_number, load_number, t
 
 use answer_number::{Numbered, numbers};
 use effect::Fault;
-use nanocore::answer::{LoadAnswer, RunAnswer, StepAnswer, TransferAnswer};
+use nanocore::answer::{
+    Completed, LoadAnswer, NoImage, RunAnswer, RunRefusal, StepAnswer, StepRefusal, TooLong,
+    TransferAnswer,
+};
 
 pub fn fault_number(fault: Fault) -> Numbered
     ensures { result ≡ numbered (fault_number fault) }
 {
     match fault {
-        Fault::InvalidOpcode { opcode, pc } => numbers(3, opcode as usize, pc as usize),
-        Fault::StackFull(sp) => numbers(4, sp as usize, 0),
-        Fault::StackEmpty(sp) => numbers(5, sp as usize, 0),
-        Fault::DivisorZero(opcode) => numbers(6, opcode as usize, 0),
+        Fault::InvalidOpcode { opcode, pc } => numbers(3, usize::from(opcode), usize::from(pc)),
+        Fault::StackFull(sp) => numbers(4, usize::from(sp), 0),
+        Fault::StackEmpty(sp) => numbers(5, usize::from(sp), 0),
+        Fault::DivisorZero(opcode) => numbers(6, usize::from(opcode), 0),
         Fault::NoInput => numbers(7, 0, 0),
         Fault::NoRoom => numbers(8, 0, 0),
     }
@@ -25,11 +28,11 @@ pub fn step_number(answer: StepAnswer) -> Numbered
     ensures { result ≡ numbered (step_number answer) }
 {
     match answer {
-        StepAnswer::Stepped => numbers(0, 0, 0),
-        StepAnswer::Halted => numbers(1, 0, 0),
-        StepAnswer::AlreadyHalted => numbers(2, 0, 0),
-        StepAnswer::Refused(fault) => fault_number(fault),
-        StepAnswer::CountFull => numbers(9, 0, 0),
+        Ok(Completed::Stepped) => numbers(0, 0, 0),
+        Ok(Completed::Halted) => numbers(1, 0, 0),
+        Err(StepRefusal::AlreadyHalted) => numbers(2, 0, 0),
+        Err(StepRefusal::Fault(fault)) => fault_number(fault),
+        Err(StepRefusal::CountFull) => numbers(9, 0, 0),
     }
 }
 
@@ -37,9 +40,9 @@ pub fn run_number(answer: RunAnswer) -> Numbered
     ensures { result ≡ numbered (run_number answer) }
 {
     match answer {
-        RunAnswer::Halted => numbers(1, 0, 0),
-        RunAnswer::Refused(fault) => fault_number(fault),
-        RunAnswer::LimitReached(limit) => numbers(10, limit as usize, 0),
+        Ok(()) => numbers(1, 0, 0),
+        Err(RunRefusal::Fault(fault)) => fault_number(fault),
+        Err(RunRefusal::LimitReached(limit)) => numbers(10, usize::from(limit), 0),
     }
 }
 
@@ -47,8 +50,8 @@ pub fn load_number(answer: LoadAnswer) -> Numbered
     ensures { result ≡ numbered (load_number answer) }
 {
     match answer {
-        LoadAnswer::Loaded => numbers(0, 0, 0),
-        LoadAnswer::TooLong { length, start } => numbers(11, length, start as usize),
+        Ok(()) => numbers(0, 0, 0),
+        Err(TooLong { length, start }) => numbers(11, length, usize::from(start)),
     }
 }
 
@@ -56,7 +59,7 @@ pub fn transfer_number(answer: TransferAnswer) -> Numbered
     ensures { result ≡ numbered (transfer_number answer) }
 {
     match answer {
-        TransferAnswer::Transferred => numbers(0, 0, 0),
-        TransferAnswer::NoImage => numbers(19, 0, 0),
+        Ok(()) => numbers(0, 0, 0),
+        Err(NoImage) => numbers(19, 0, 0),
     }
 }
