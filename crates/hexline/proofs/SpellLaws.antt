@@ -1,5 +1,6 @@
 -- What each turn of the spelling does.
-use Rattle.std.proofs.Common.{◌≡◌, ℕ, suc, ◌+◌, ◌*◌, ◌<◌, ◌≤◌, List, [], ◌∷◌, ◌++◌, length, get_or, take, drop, set, sym, refl, ap, ◌∙◌, add-one, arith, length-set, drop_of_length-le, drop-cons, take-suc-set, le-ltb, lt-ltb}
+use Rattle.std.proofs.Common.{◌≡◌, ℕ, ◌+◌, ◌*◌, ◌-◌, ◌<◌, ◌≤◌, List, [], ◌∷◌, ◌++◌, length, get_or, take, drop, set, sym, refl, ap, ◌∙◌, add-one, arith, length-set, drop-cons, take-suc-set, lt-ltb}
+use Rattle.std.proofs.lemmas.List.{take_all}
 use mathlib.Core.Bool.{and-false}
 use Rattle.digits.specs.Digit.{digit_of, pair_of}
 use Rattle.hexline.specs.Spelling.{Spelling, spells, nothing, before, spelled, digits_of}
@@ -21,58 +22,61 @@ all_more : (bs : List ℕ) (b : ℕ) (s : Spelling) → before_all (bs ++ (b ∷
 all_more [] b s = refl
 all_more (x ∷ bs) b s = ap (before x) (all_more bs b s)
 
--- before the place i so many bytes are spelled, and what is left tells all
-pub record Spelt (text filled : List ℕ) (count i : ℕ) : Type 0 where
-  pub within : i ≤ length text
-  pub twice : i ≡ count + count
+-- so many bytes are spelled, and what is left of the text tells all
+pub record Spelt (text filled : List ℕ) (count : ℕ) (rest : List ℕ) : Type 0 where
+  pub size : length text ≡ count + count + length rest
   pub room : length filled ≡ 260
-  pub left : before_all (take count filled) (spelled (drop i text)) ≡ spelled text
+  pub left : before_all (take count filled) (spelled rest) ≡ spelled text
 
-module _ {text filled : List ℕ} {count i : ℕ} (at : Spelt text filled count i) where
-  stopped : spelled (drop i text) ≡ nothing → nothing ≡ spelled text
-  stopped none = sym (all_nothing (take count filled)) ∙ sym (ap (before_all (take count filled)) none) ∙ at.left
+module _ {text filled : List ℕ} {count : ℕ} where
+  stopped : {rest : List ℕ} → Spelt text filled count rest → spelled rest ≡ nothing → nothing ≡ spelled text
+  stopped at none = sym (all_nothing (take count filled)) ∙ sym (ap (before_all (take count filled)) none) ∙ at.left
 
-  pub ended : length text ≤ i → spells (take count filled) ≡ spelled text
+  pub ended : (rest : List ℕ) → Spelt text filled count rest → length rest ≡ 0 → spells (take count filled) ≡ spelled text
   unfolding spelled
-  ended h = sym (all_none (take count filled)) ∙ rw (drop_of_length-le text h) at at.left
+  ended [] at none = sym (all_none (take count filled)) ∙ at.left
+  ended (c ∷ rest) at none = absurd (omega arith)
 
-  pub lone : i < length text → length text ≤ i + 1 → nothing ≡ spelled text
+  pub lone : (rest : List ℕ) → Spelt text filled count rest → length rest ≡ 1 → nothing ≡ spelled text
   unfolding spelled
-  lone h last = stopped (rw (drop-cons text i 0 h, drop_of_length-le text {i = suc i} (omega arith)))
+  lone [] at one = absurd (omega arith)
+  lone (c ∷ []) at one = stopped at refl
+  lone (c ∷ d ∷ rest) at one = absurd (omega arith)
 
-  -- at two bytes of the text
-  module _ (h : i + 1 < length text) where
-    two : drop i text ≡ get_or text i 0 ∷ get_or text (i + 1) 0 ∷ drop (i + 2) text
-    two =
-        let next : i + 2 ≡ suc (suc i) = omega arith in
-        rw (next, add-one i, drop-cons text i 0 (omega arith), drop-cons text (suc i) 0 (omega arith))
+  -- where two bytes are left at least
+  pub high_none : (rest : List ℕ) → 2 ≤ length rest → Spelt text filled count rest → digit_of (get_or rest 0 0) ≡ 16 → nothing ≡ spelled text
+  unfolding spelled
+  high_none [] two at not = absurd (omega arith)
+  high_none (c ∷ []) two at not = absurd (omega arith)
+  high_none (c ∷ d ∷ rest) two at not = stopped at (rw (not))
 
-    pub high_none : {d : ℕ} → d ≡ digit_of (get_or text i 0) → 16 ≤ d → nothing ≡ spelled text
-    unfolding spelled
-    high_none {d} digit not = stopped (rw (two, ← digit, le-ltb d 16 not))
+  pub low_none : (rest : List ℕ) → 2 ≤ length rest → Spelt text filled count rest → digit_of (get_or rest 1 0) ≡ 16 → nothing ≡ spelled text
+  unfolding spelled
+  low_none [] two at not = absurd (omega arith)
+  low_none (c ∷ []) two at not = absurd (omega arith)
+  low_none (c ∷ d ∷ rest) two at not = stopped at (rw (not, and-false))
 
-    pub low_none : {d : ℕ} → d ≡ digit_of (get_or text (i + 1) 0) → 16 ≤ d → nothing ≡ spelled text
-    unfolding spelled
-    low_none {d} digit not = stopped (rw (two, ← digit, le-ltb d 16 not, and-false))
-
-    pub onward :
-        {d e : ℕ} → d ≡ digit_of (get_or text i 0) → e ≡ digit_of (get_or text (i + 1) 0) → d < 16 → e < 16 → count < 260 →
-        Spelt text (set filled count (d * 16 + e)) (count + 1) (i + 2)
-    unfolding spelled
-    onward {d} {e} high low d-is e-is space =
-        let spelling : spelled (drop i text) ≡ before (d * 16 + e) (spelled (drop (i + 2) text)) =
-        rw (two, ← high, ← low, lt-ltb d 16 d-is, lt-ltb e 16 e-is)
-        in
-        record {
-          within = omega arith;
-          twice = omega arith;
-          room = length-set filled count (d * 16 + e) ∙ at.room;
-          left =
-              rw (add-one count, take-suc-set filled count (d * 16 + e) (omega (arith, at.room)))
-              (all_more (take count filled) (d * 16 + e) (spelled (drop (i + 2) text))
-              ∙ sym (ap (before_all (take count filled)) spelling)
-              ∙ at.left);
-        }
+  pub onward :
+      (rest : List ℕ) → 2 ≤ length rest → Spelt text filled count rest → {h l : ℕ} →
+      h ≡ digit_of (get_or rest 0 0) → l ≡ digit_of (get_or rest 1 0) → h < 16 → l < 16 → count < 260 →
+      Spelt text (set filled count (h * 16 + l)) (count + 1) (take (length rest - 2) (drop 2 rest))
+  unfolding spelled
+  onward [] two at high low h-is l-is room = absurd (omega arith)
+  onward (c ∷ []) two at high low h-is l-is room = absurd (omega arith)
+  onward (c ∷ d ∷ rest) two at {h} {l} high low h-is l-is room =
+      let spelling : spelled (c ∷ d ∷ rest) ≡ before (h * 16 + l) (spelled rest) =
+      rw (← high, ← low, lt-ltb h 16 h-is, lt-ltb l 16 l-is)
+      in
+      let all : take (length (c ∷ d ∷ rest) - 2) rest ≡ rest = take_all (length (c ∷ d ∷ rest) - 2) rest (omega arith) in
+      rw all (record {
+        size = omega (arith, at.size);
+        room = length-set filled count (h * 16 + l) ∙ at.room;
+        left =
+            rw (add-one count, take-suc-set filled count (h * 16 + l) (omega (arith, at.room)))
+            (all_more (take count filled) (h * 16 + l) (spelled rest)
+            ∙ sym (ap (before_all (take count filled)) spelling)
+            ∙ at.left);
+      })
 
 pub digits_next :
     (bs : List ℕ) (i : ℕ) → i < length bs → digits_of (drop i bs) ≡ pair_of (get_or bs i 0) ++ digits_of (drop (i + 1) bs)

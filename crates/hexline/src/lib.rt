@@ -5,7 +5,9 @@
 pub mod record;
 // The line of a record.
 pub mod line;
-// Bytes that digits spell.
+// The bytes that digits spell.
+pub mod spelled;
+// Digits read.
 mod spell;
 // The sum of a record's bytes.
 mod sum;

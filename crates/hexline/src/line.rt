@@ -6,7 +6,6 @@ ghost use Rattle.hexline.specs.Spelling.{digits_of};
 
 use crate::sum::sum;
 use digits::digit::pair;
-use std::num::{wrapping_add_u8, wrapping_sub_u8};
 use text::line::Line;
 
 // Data from an address on: at most sixteen bytes, with which the line is 44 bytes long and has room.
@@ -15,7 +14,7 @@ pub fn data_line(address: u8, held: &[u8]) -> Line
     ensures { result ≡ lined (line_of 0 address held.now) }
 {
     let front = [held.len() as u8, 0, address, 0];
-    let last = [wrapping_sub_u8(0, wrapping_add_u8(sum(&front), sum(held)))];
+    let last = [sum(&front).wrapping_add(sum(held)).wrapping_neg()];
     let begun = digits(Line::empty().text(b":"), &front);
     digits(digits(begun, held), &last).text(b"\n")
 }
@@ -31,11 +30,8 @@ fn digits(line: Line, bytes: &[u8]) -> Line
     ensures { result ≡ appended line (digits_of bytes.now) }
 {
     let mut longer = line;
-    let mut i: usize = 0;
-    while i < bytes.len() {
-        let two = pair(bytes[i]);
-        longer = longer.text(&two);
-        i += 1;
+    for byte in bytes {
+        longer = longer.text(&pair(*byte));
     }
     longer
 }

@@ -1,114 +1,82 @@
 // What a line is, from its bytes.
-ghost use Rattle.std.specs.Prelude.{◌≡◌, ◌+◌, ◌≤◌, length, take};
-ghost use Rattle.hexline.specs.declared.record.Kind.TheVariants.{Fills, Shape};
-ghost use Rattle.hexline.specs.Code.{kinded, rowing};
-ghost use Rattle.hexline.specs.Row.{count_of, row_by, row_of, row_spelled, shaped, without_return};
+ghost use Rattle.std.specs.Prelude.{◌≡◌, IfOk, take};
+ghost use Rattle.hexline.specs.Code.{IsWhole, rowing};
+ghost use Rattle.hexline.specs.Row.{row_by, row_of, row_spelled, shaped, without_return};
 ghost use Rattle.hexline.specs.Spelling.{spelled};
 
 use crate::spell::spell;
+use crate::spelled::Spelled;
 use crate::sum::sum;
 use fields::read::byte_at;
 
+// Data come with all the bytes of their record.
 #[derive(Clone, Copy)]
-pub enum Kind {
-    Fills,
+pub enum Record {
+    Fills(Spelled),
     Ends,
+}
+
+// Why a line is no record.
+#[derive(Clone, Copy, PartialEq, Eq, Debug)]
+pub enum Misread {
     Shape,
     Checksum,
     OtherType,
 }
 
-// The bytes of the record stand at the start, so many. They count where it fills.
-#[derive(Clone, Copy)]
-pub struct Record {
-    pub kind: Kind,
-    pub bytes: [u8; 260],
-    pub length: usize,
-}
-
 impl Record {
     // The line comes without its LF.
-    pub fn of(line: &[u8]) -> Record
+    #[tactic(auto, unfolding(crate::specs::Row::row_of))]
+    pub fn of(line: &[u8]) -> Result<Record, Misread>
         ensures result_value { rowing result ≡ row_of line.now }
-        ensures length_in_bounds { result.length ≤ length result.bytes }
-        ensures length_value { result.kind ≡ Fills → result.length ≡ count_of (take result.length result.bytes) + 5 }
+        ensures length_value { IfOk result IsWhole }
     {
-        let end = text_end(line);
-        if end == 0 {
-            return misshapen();
+        match before_return(line) {
+            [b':', digits @ ..] => Record::spelled_by(digits),
+            _ => Err(Misread::Shape),
         }
-        if line[0] != b':' {
-            return misshapen();
+    }
+
+    // By the digits behind the colon. More than 520 are those of no record.
+    #[tactic(auto, using(crate::proofs::RowLaws::too_long))]
+    fn spelled_by(digits: &[u8]) -> Result<Record, Misread>
+        ensures result_value { rowing result ≡ row_spelled (spelled digits.now) }
+        ensures length_value { IfOk result IsWhole }
+    {
+        if digits.len() > 520 {
+            return Err(Misread::Shape);
         }
-        spelled_by(&line[1..end])
+        Record::of_bytes(spell(digits).ok_or(Misread::Shape)?)
+    }
+
+    // The tests come in the order of the refusals.
+    #[tactic(auto, unfolding(crate::specs::Row::row_by))]
+    fn of_bytes(spelled: Spelled) -> Result<Record, Misread>
+        ensures result_value { rowing result ≡ row_by (take spelled.count spelled.bytes) }
+        ensures length_value { IfOk result IsWhole }
+    {
+        let bytes = spelled.as_bytes();
+        if !is_shaped(bytes) {
+            return Err(Misread::Shape);
+        }
+        if sum(bytes) != 0 {
+            return Err(Misread::Checksum);
+        }
+        match byte_at(bytes, 3) {
+            0 => Ok(Record::Fills(spelled)),
+            1 => Ok(Record::Ends),
+            _ => Err(Misread::OtherType),
+        }
     }
 }
 
 // All before a CR that stands last.
-fn text_end(line: &[u8]) -> usize
-    ensures line_value { without_return line.now ≡ take result line.now }
-    ensures upper_bound { result ≤ length line.now }
+fn before_return(line: &[u8]) -> &[u8]
+    ensures { result.now ≡ without_return line.now }
 {
-    let length = line.len();
-    if length == 0 {
-        return 0;
-    }
-    if line[length - 1] == b'\r' {
-        return length - 1;
-    }
-    length
-}
-
-fn misshapen() -> Record
-    ensures kind_value { result.kind ≡ Shape }
-    ensures length_in_bounds { result.length ≤ length result.bytes }
-{
-    Record {
-        kind: Kind::Shape,
-        bytes: [0; 260],
-        length: 0,
-    }
-}
-
-// By the digits behind the colon. More than 520 are those of no record.
-fn spelled_by(digits: &[u8]) -> Record
-    ensures result_value { rowing result ≡ row_spelled (spelled digits.now) }
-    ensures length_in_bounds { result.length ≤ length result.bytes }
-    ensures length_value { result.kind ≡ Fills → result.length ≡ count_of (take result.length result.bytes) + 5 }
-{
-    if digits.len() > 520 {
-        return misshapen();
-    }
-    let spelled = spell(digits);
-    if !spelled.whole {
-        return misshapen();
-    }
-    let bytes = spelled.bytes;
-    let length = spelled.count;
-    Record {
-        kind: Kind::of(&bytes[..length]),
-        bytes: bytes,
-        length: length,
-    }
-}
-
-impl Kind {
-    // The tests come in the order of the refusals.
-    fn of(bytes: &[u8]) -> Kind
-        ensures { kinded result bytes.now ≡ row_by bytes.now }
-    {
-        if !is_shaped(bytes) {
-            return Kind::Shape;
-        }
-        let kind = byte_at(bytes, 3);
-        if sum(bytes) != 0 {
-            return Kind::Checksum;
-        }
-        match kind {
-            0 => Kind::Fills,
-            1 => Kind::Ends,
-            _ => Kind::OtherType,
-        }
+    match line {
+        [text @ .., b'\r'] => text,
+        _ => line,
     }
 }
 
@@ -116,12 +84,6 @@ impl Kind {
 fn is_shaped(bytes: &[u8]) -> bool
     ensures { result ≡ shaped bytes.now }
 {
-    let count = byte_at(bytes, 0) as usize;
-    if bytes.len() != count + 5 {
-        return false;
-    }
-    if byte_at(bytes, 3) != 1 {
-        return true;
-    }
-    count == 0
+    let count = usize::from(byte_at(bytes, 0));
+    bytes.len() == count + 5 && !(byte_at(bytes, 3) == 1 && count > 0)
 }

@@ -6,17 +6,15 @@ use Rattle.hexline.specs.Spelling.{digits_of}
 use Rattle.hexline.proofs.SpellLaws.{digits_next}
 use Rattle.hexline.proofs.line.digits.Goals as goal
 
-pub loop-i-preserved : goal.loop-i-preserved
-loop-i-preserved c =
-    let l = c.loop-i in
-    let bytes = c.args.bytes.now in (
-      omega arith,
-      onto l.longer c.pair-two.result (digits_of (drop (l.i + 1) bytes)) c.text-longer.ensures
-          ∙ ap (λ two. appended l.longer (two ++ digits_of (drop (l.i + 1) bytes))) c.pair-two.ensures
-          ∙ sym (ap (appended l.longer) (digits_next bytes l.i (omega arith)))
-          ∙ l.invariant.1,
-    )
+pub loop-byte-preserved : goal.loop-byte-preserved
+loop-byte-preserved c =
+    let l = c.loop-byte in
+    let bytes = c.args.bytes.now in
+    onto l.longer c.pair.result (digits_of (drop (l.byte-index + 1) bytes)) c.text-longer.ensures
+    ∙ ap (λ two. appended l.longer (two ++ digits_of (drop (l.byte-index + 1) bytes))) c.pair.ensures
+    ∙ sym (ap (appended l.longer) (digits_next bytes l.byte-index (omega arith)))
+    ∙ l.invariant
 
 pub returns : goal.returns
 unfolding digits_of appended
-returns c = rw (drop_of_length-le _ c.loop-i-test.false) at c.loop-i.invariant.1
+returns c = rw (drop_of_length-le c.args.bytes.now {i = c.loop-byte.byte-index} (omega arith)) at c.loop-byte.invariant
