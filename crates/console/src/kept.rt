@@ -4,7 +4,7 @@ ghost use Rattle.nanocore.specs.Numbers.{stepping};
 ghost use Rattle.nanocore.specs.Step.{situated, step_of};
 
 use crate::lent;
-use nanocore::answer::StepOutcome;
+use nanocore::answer::{Outcome, StepAnswer};
 use nanocore::machine::Machine;
 
 pub fn step(
@@ -13,12 +13,12 @@ pub fn step(
     place: usize,
     output: &mut [u8],
     written: usize,
-) -> StepOutcome
+) -> Outcome<StepAnswer>
     ensures { stepping result output.new ≡ step_of input.now (situated machine place output.old written) }
 {
     let mut kept = machine;
     let report = lent::step(&mut kept, input, place, output, written);
-    StepOutcome {
+    Outcome {
         answer: report.answer,
         machine: kept,
         place: report.place,

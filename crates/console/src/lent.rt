@@ -5,8 +5,8 @@ ghost use Rattle.nanocore.specs.Run.{run_of};
 ghost use Rattle.nanocore.specs.Step.{situated, step_of};
 ghost use Rattle.console.specs.Reports.{loaded, ran, stepped};
 
-use crate::report::{RunReport, StepReport};
-use nanocore::answer::LoadAnswer;
+use crate::report::Report;
+use nanocore::answer::{LoadAnswer, Outcome, RunAnswer, StepAnswer};
 use nanocore::machine::Machine;
 
 // One instruction. A refused step leaves the machine, the place, the number and the buffer as found.
@@ -16,12 +16,19 @@ pub fn step(
     place: usize,
     output: &mut [u8],
     written: usize,
-) -> StepReport
+) -> Report<StepAnswer>
     ensures { stepped result machine.new output.new ≡ step_of input.now (situated machine.old place output.old written) }
 {
-    let outcome = (*machine).step(input, place, output, written);
+    kept(machine.step(input, place, output, written), machine)
+}
+
+// Puts the next machine where it lies, and reports the rest.
+fn kept<A>(outcome: Outcome<A>, machine: &mut Machine) -> Report<A>
+    ensures reported { result ≡ record { answer = outcome.answer; place = outcome.place; written = outcome.written } }
+    ensures machine_after { machine.new ≡ outcome.machine }
+{
     *machine = outcome.machine;
-    StepReport {
+    Report {
         answer: outcome.answer,
         place: outcome.place,
         written: outcome.written,
@@ -35,23 +42,17 @@ pub fn run(
     place: usize,
     output: &mut [u8],
     written: usize,
-) -> RunReport
+) -> Report<RunAnswer>
     ensures { ran result machine.new output.new ≡ run_of input.now (situated machine.old place output.old written) }
 {
-    let outcome = (*machine).run(input, place, output, written);
-    *machine = outcome.machine;
-    RunReport {
-        answer: outcome.answer,
-        place: outcome.place,
-        written: outcome.written,
-    }
+    kept(machine.run(input, place, output, written), machine)
 }
 
 // A program into memory. One that is too long leaves the machine as found.
 pub fn load(machine: &mut Machine, program: &[u8], start: u8) -> LoadAnswer
     ensures { loaded result machine.new ≡ load_of machine.old program.now start }
 {
-    let outcome = (*machine).load(program, start);
-    *machine = outcome.machine;
-    outcome.answer
+    let loaded = machine.load(program, start);
+    *machine = loaded.machine;
+    loaded.answer
 }
