@@ -1,27 +1,27 @@
 -- Laws that the crates above cite: what encode gives is decoded to the same instruction; what decode gives has its operation's form,
 -- and encode takes it; an answer's number and values tell the answer.
-use mathlib.Core.Path.{◌≡◌, refl, ap}
+use mathlib.Core.Path.{◌≡◌, refl, sym, ◌∙◌, ap}
 use mathlib.Core.Bool.{Bool, true, false, cond, and-eq-true_iff}
 use mathlib.Core.List.{List, [], ◌∷◌}
 use Prim.Native.Nat.{ℕ, ◌+◌, ◌*◌, ◌/◌, ◌%◌, ◌<◌}
 use native.Mathlib.Omega.{arith}
 use borrow.Author.Tests.{eqb-true, eq-eqb, leb-true, le-leb}
-use lib.Dec.{eqb, leb}
+use lib.Dec.{leb}
 use lib.ListN.{get_or}
 use Rattle.byte.proofs.Inverse.{undone}
 use Rattle.op.specs.declared.form.Form.{Form}
 use Rattle.op.specs.declared.operation.Op.{Op}
-use Rattle.op.specs.declared.operation.Lookup.{Lookup}
-use Rattle.op.specs.declared.operation.Lookup.TheVariants.{Found, Unknown}
+use Rattle.std.specs.Prelude.{Option, Result, Ok, Err}
+use Rattle.std.specs.Prelude.{Some}
 use Rattle.op.specs.Operations.{decoded, form_of}
 use Rattle.op.proofs.Laws.{decoded_byte}
 use Rattle.instruction.specs.declared.operands.Operands.{Operands}
 use Rattle.instruction.specs.declared.operands.Operands.TheVariants.{None, Reg, RegImm, RegReg, RegAddr, Addr}
-use Rattle.instruction.specs.declared.decode.Decoded.{Decoded}
-use Rattle.instruction.specs.declared.decode.Decoded.TheVariants.{Instruction, Invalid}
-use Rattle.instruction.specs.declared.encode.EncodeAnswer.{EncodeAnswer}
-use Rattle.instruction.specs.declared.encode.EncodeAnswer.TheVariants.{Done, OtherForm, NoSuchRegister}
+use Rattle.instruction.specs.declared.decode.Instruction.{Instruction}
+use Rattle.instruction.specs.declared.decode.InvalidOpcode.{InvalidOpcode}
 use Rattle.instruction.specs.declared.encode.Encoded.{Encoded}
+use Rattle.instruction.specs.declared.encode.EncodeRefusal.{EncodeRefusal}
+use Rattle.instruction.specs.declared.encode.EncodeRefusal.TheVariants.{OtherForm, NoSuchRegister}
 use Rattle.instruction.specs.Operands.{operands_of}
 use Rattle.instruction.specs.Decode.{Decoding, instruction, decoding_of, decoded_of}
 use Rattle.instruction.specs.Encode.{
@@ -116,10 +116,10 @@ registers_read Form.RegAddr two three h = le-leb (two % 16) 15 (omega arith)
 registers_read Form.Addr two three h = refl
 
 read_from_lem :
-    (l : Lookup) (one two three : ℕ) (o : Op) (a : Operands) → decoding_of l one two three ≡ instruction o a →
+    (l : Option Op) (one two three : ℕ) (o : Op) (a : Operands) → decoding_of l one two three ≡ instruction o a →
     operands_of (form_of o) two three ≡ a
-read_from_lem (Found p) one two three o a e = cc
-read_from_lem Unknown one two three o a e = cc
+read_from_lem (Some p) one two three o a e = cc
+read_from_lem Option.None one two three o a e = cc
 
 module _ (one two three : ℕ) (o : Op) (a : Operands) (e : decoded_of one two three ≡ instruction o a) where
   -- decoded operands were read by the operation's form
@@ -136,29 +136,34 @@ module _ (one two three : ℕ) (o : Op) (a : Operands) (e : decoded_of one two t
   encoded_decoded h = rw (accepts o a decoded_form (rw (← read) (registers_read (form_of o) two three h)))
 
 -- equal numbers and values, and the same said of the spelling: equal answers
-pub decoding_injective : (r s : Decoded) → decoding r ≡ decoding s → spelling r ≡ spelling s → r ≡ s
-decoding_injective (Instruction o a plain) (Instruction p b also) e f = cc
-decoding_injective (Instruction o a plain) (Invalid c) e f = cc
-decoding_injective (Invalid b) (Instruction p a plain) e f = cc
-decoding_injective (Invalid b) (Invalid c) e f = cc
+pub decoding_injective : (r s : Result Instruction InvalidOpcode) → decoding r ≡ decoding s → spelling r ≡ spelling s → r ≡ s
+decoding_injective (Ok i) (Ok j) e f =
+    let op : i.op ≡ j.op = cc in
+    let operands : i.operands ≡ j.operands = cc in
+    let plain : i.plain ≡ j.plain = cc in
+    ap Ok
+    (ap (λ o. record { op = o; operands = i.operands; plain = i.plain }) op
+    ∙ ap (λ a. record { op = j.op; operands = a; plain = i.plain }) operands
+    ∙ ap (λ p. record { op = j.op; operands = j.operands; plain = p }) plain)
+decoding_injective (Ok i) (Err d) e f = cc
+decoding_injective (Err c) (Ok j) e f = cc
+decoding_injective (Err c) (Err d) e f =
+    let opcode : c.opcode ≡ d.opcode = cc in
+    ap (λ b. Err (record { opcode = b })) opcode
 
--- the answer that has this number
-abbrev is_of : List ℕ → EncodeAnswer → Bool
-is_of number r = eqb (get_or number 0 0) (get_or (encode_number r) 0 0)
+pub encode_number_injective : (r s : EncodeRefusal) → encode_number r ≡ encode_number s → r ≡ s
+encode_number_injective OtherForm OtherForm e = refl
+encode_number_injective OtherForm NoSuchRegister e = cc
+encode_number_injective NoSuchRegister OtherForm e = cc
+encode_number_injective NoSuchRegister NoSuchRegister e = refl
 
-abbrev answer_of : List ℕ → EncodeAnswer
-answer_of number = cond (is_of number Done) Done (cond (is_of number OtherForm) OtherForm NoSuchRegister)
+-- no refusal has the number of what was done
+not_done : (f : EncodeRefusal) → encode_number f ≡ 0 ∷ [] → ⊥
+not_done OtherForm e = cc
+not_done NoSuchRegister e = cc
 
-answer_of_number : (r : EncodeAnswer) → answer_of (encode_number r) ≡ r
-answer_of_number Done = refl
-answer_of_number OtherForm = refl
-answer_of_number NoSuchRegister = refl
-
-pub encode_number_injective : (r s : EncodeAnswer) → encode_number r ≡ encode_number s → r ≡ s
-encode_number_injective = undone encode_number answer_of answer_of_number
-
-abbrev encoded_as : Encoding → Encoded
-encoded_as x = record { answer = answer_of x.answer; bytes = x.bytes; length = x.length }
-
-pub encoding_injective : (r s : Encoded) → encoding r ≡ encoding s → r ≡ s
-encoding_injective = undone encoding encoded_as (λ r. rw (answer_of_number r.answer))
+pub encoding_injective : (r s : Result Encoded EncodeRefusal) → encoding r ≡ encoding s → r ≡ s
+encoding_injective (Ok a) (Ok b) e = ap (λ x. Ok (record { bytes = x.bytes; length = x.length })) e
+encoding_injective (Ok a) (Err f) e = absurd (not_done f (ap (λ x. x.answer) (sym e)))
+encoding_injective (Err f) (Ok b) e = absurd (not_done f (ap (λ x. x.answer) e))
+encoding_injective (Err f) (Err g) e = ap Err (encode_number_injective f g (ap (λ x. x.answer) e))

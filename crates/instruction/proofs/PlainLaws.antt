@@ -9,8 +9,7 @@ use lib.Dec.{eqb, ltb}
 use lib.ListN.{length, take, get_or}
 use Rattle.op.specs.declared.form.Form.{Form}
 use Rattle.op.specs.declared.operation.Op.{Op}
-use Rattle.op.specs.declared.operation.Lookup.{Lookup}
-use Rattle.op.specs.declared.operation.Lookup.TheVariants.{Found, Unknown}
+use Rattle.std.specs.Prelude.{Option, Some, None}
 use Rattle.op.specs.Operations.{byte_of, decoded, form_of, length_of}
 use Rattle.op.proofs.Laws.{byte_decoded, length_within}
 use Rattle.instruction.specs.declared.operands.Operands.{Operands}
@@ -74,9 +73,9 @@ by_form Form.RegAddr one two three h =
     rw (eq-eqb one one refl, low_nibble two, eq-eqb three three refl) (and-true (ltb two 16))
 by_form Form.Addr one two three h = rw (eq-eqb one one refl, eq-eqb two two refl)
 
-found_at : (l : Lookup) (one two three : ℕ) (o : Op) (a : Operands) → decoding_of l one two three ≡ instruction o a → l ≡ Found o
-found_at (Found p) one two three o a e = cc
-found_at Unknown one two three o a e = cc
+found_at : (l : Option Op) (one two three : ℕ) (o : Op) (a : Operands) → decoding_of l one two three ≡ instruction o a → l ≡ Some o
+found_at (Some p) one two three o a e = cc
+found_at None one two three o a e = cc
 
 module _ (one two three : ℕ) (o : Op) (a : Operands) (e : decoded_of one two three ≡ instruction o a) where
   abbrev bytes : List ℕ
@@ -120,7 +119,7 @@ module _ (one two three : ℕ) (o : Op) (a : Operands) (e : decoded_of one two t
 
 -- an operation that was found has its instruction, and is spelled as its form says
 pub answered :
-    (one two three : ℕ) (o : Op) → decoded one ≡ Found o → two < 256 →
+    (one two three : ℕ) (o : Op) → decoded one ≡ Some o → two < 256 →
     (instruction o (operands_of (form_of o) two three) ≡ decoded_of one two three)
     × (spelled (plain_by_form (form_of o) two) ≡ spelling_of one two three)
 unfolding decoded_of

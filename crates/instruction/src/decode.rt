@@ -6,43 +6,42 @@ ghost use Rattle.instruction.specs.Plain.{plain_by_form, spelling_of};
 
 use crate::operands::Operands;
 use op::form::Form;
-use op::operation::{Lookup, Op};
+use op::operation::Op;
 
-// An instruction comes with whether its bytes are the plain spelling, an invalid opcode as it was read.
-#[derive(Clone, Copy)]
-pub enum Decoded {
-    Instruction(Op, Operands, bool),
-    Invalid(u8),
+// Plain says whether its bytes are what encode would spell.
+#[derive(Clone, Copy, PartialEq, Eq, Debug)]
+pub struct Instruction {
+    pub op: Op,
+    pub operands: Operands,
+    pub plain: bool,
 }
 
-pub fn decode(opcode: u8, second: u8, third: u8) -> Decoded
+// An opcode that is no operation's, as it was read.
+#[derive(Clone, Copy, PartialEq, Eq, Debug)]
+pub struct InvalidOpcode {
+    pub opcode: u8,
+}
+
+#[tactic(auto, unfolding(crate::specs::Decode::decoded_of, crate::specs::Plain::spelling_of))]
+pub fn decode(opcode: u8, second: u8, third: u8) -> Result<Instruction, InvalidOpcode>
     ensures decoded { decoding result ≡ decoded_of opcode second third }
     ensures spelling { spelling result ≡ spelling_of opcode second third }
 {
-    match Op::decode(opcode) {
-        Lookup::Found(op) => {
-            let form = op.form();
-            Decoded::Instruction(
-                op,
-                Operands::of_form(form, second, third),
-                is_plain(form, second),
-            )
-        }
-        Lookup::Unknown => Decoded::Invalid(opcode),
-    }
+    let op = Op::decode(opcode).ok_or(InvalidOpcode { opcode })?;
+    let form = op.form();
+    Ok(Instruction {
+        op,
+        operands: Operands::of_form(form, second, third),
+        plain: is_plain(form, second),
+    })
 }
 
 // Encode gives every byte back but a lone register's: there it puts 0 into the high nibble, which decode does not look at.
 fn is_plain(form: Form, second: u8) -> bool
     ensures { result ≡ plain_by_form form second }
 {
-    let low = second < 16;
     match form {
-        Form::None => true,
-        Form::Reg => low,
-        Form::RegImm => low,
-        Form::RegReg => true,
-        Form::RegAddr => low,
-        Form::Addr => true,
+        Form::Reg | Form::RegImm | Form::RegAddr => second < 16,
+        Form::None | Form::RegReg | Form::Addr => true,
     }
 }

@@ -5,7 +5,7 @@ ghost use Rattle.instruction.specs.Encode.{shape_of, registers_exist, two_of, th
 
 use op::form::Form;
 
-#[derive(Clone, Copy)]
+#[derive(Clone, Copy, PartialEq, Eq, Debug)]
 pub enum Operands {
     None,
     Reg(u8),
@@ -49,12 +49,9 @@ impl Operands {
         ensures { result ≡ registers_exist self }
     {
         match self {
-            Operands::None => true,
-            Operands::Reg(r) => r <= 15,
-            Operands::RegImm(r, _) => r <= 15,
+            Operands::None | Operands::Addr(_) => true,
+            Operands::Reg(r) | Operands::RegImm(r, _) | Operands::RegAddr(r, _) => r <= 15,
             Operands::RegReg(d, s) => d <= 15 && s <= 15,
-            Operands::RegAddr(r, _) => r <= 15,
-            Operands::Addr(_) => true,
         }
     }
 
@@ -64,10 +61,8 @@ impl Operands {
     {
         match self {
             Operands::None => 0,
-            Operands::Reg(r) => r % 16,
-            Operands::RegImm(r, _) => r % 16,
+            Operands::Reg(r) | Operands::RegImm(r, _) | Operands::RegAddr(r, _) => r % 16,
             Operands::RegReg(d, s) => d % 16 * 16 + s % 16,
-            Operands::RegAddr(r, _) => r % 16,
             Operands::Addr(a) => a,
         }
     }
@@ -76,12 +71,8 @@ impl Operands {
         ensures { result ≡ three_of self }
     {
         match self {
-            Operands::None => 0,
-            Operands::Reg(_) => 0,
-            Operands::RegImm(_, v) => v,
-            Operands::RegReg(_, _) => 0,
-            Operands::RegAddr(_, a) => a,
-            Operands::Addr(_) => 0,
+            Operands::RegImm(_, third) | Operands::RegAddr(_, third) => third,
+            Operands::None | Operands::Reg(_) | Operands::RegReg(_, _) | Operands::Addr(_) => 0,
         }
     }
 }

@@ -4,14 +4,15 @@ ghost use Rattle.op.specs.Operations.{form_of, length_of};
 
 use crate::operation::Op;
 
+// Each with its place in the table of operands.
 #[derive(Clone, Copy, PartialEq, Eq, Debug)]
 pub enum Form {
-    None,
-    Reg,
-    RegImm,
-    RegReg,
-    RegAddr,
-    Addr,
+    None = 0,
+    RegImm = 1,
+    RegAddr = 2,
+    Reg = 3,
+    RegReg = 4,
+    Addr = 5,
 }
 
 impl Form {
