@@ -1,14 +1,15 @@
 -- What a line means to the address pass, in the paper's order.
-use Rattle.std.specs.Prelude.{ℕ, ◌+◌, ◌-◌, Bool, not, cond, ◌&&◌, ◌||◌, List, eqb, leb, length}
+use Rattle.std.specs.Prelude.{ℕ, ◌+◌, ◌-◌, Bool, not, cond, ◌&&◌, ◌||◌, List, Option, Some, None, Result, Ok, Err, eqb, leb, length}
 use Rattle.text.specs.Text.{codes}
 use Rattle.scan.specs.declared.class.Class.TheVariants.{Is, IsNot, Blank}
 use Rattle.scan.specs.Scan.{first, last, some, count}
-use Rattle.op.specs.declared.operation.Lookup.{Lookup}
-use Rattle.op.specs.declared.operation.Lookup.TheVariants.{Found, Unknown}
+use Rattle.op.specs.declared.operation.Op.{Op}
 use Rattle.names.specs.Names.{named, same_text}
 use Rattle.op.specs.Operations.{form_of, length_of}
 use Rattle.source.specs.declared.meaning.Meaning.{Meaning}
-use Rattle.source.specs.declared.meaning.Meaning.TheVariants.{Nothing, Bytes, Label, ShortString, NoOperation}
+use Rattle.source.specs.declared.meaning.Meaning.TheVariants.{Nothing, Bytes, Label}
+use Rattle.source.specs.declared.meaning.Unread.{Unread}
+use Rattle.source.specs.declared.meaning.Unread.TheVariants.{ShortString, NoOperation}
 use Rattle.source.specs.Words.{words, first_word, starts}
 
 abbrev pub is_empty : List ℕ → Bool
@@ -27,22 +28,22 @@ abbrev pub between : List ℕ → ℕ
 between line = last (Is 0x22) line - 1 - (first (Is 0x22) line + 1)
 
 -- "add the bytes between first and last quote, plus 1"; "`.STRING` with fewer than two quotes" is 16
-abbrev pub string_of : List ℕ → Meaning
-string_of line = cond (leb 2 (count (Is 0x22) line)) (Bytes (between line + 1)) ShortString
+abbrev pub string_of : List ℕ → Result Meaning Unread
+string_of line = cond (leb 2 (count (Is 0x22) line)) (Ok (Bytes (between line + 1))) (Err ShortString)
 
 -- "Otherwise the first word is an operation: add its length."
-abbrev pub operation_of : Lookup → Meaning
-operation_of (Found o) = Bytes (length_of (form_of o))
-operation_of Unknown = NoOperation
+abbrev pub operation_of : Option Op → Result Meaning Unread
+operation_of (Some o) = Ok (Bytes (length_of (form_of o)))
+operation_of None = Err NoOperation
 
-unfoldable pub meaning_of : List ℕ → Meaning
+unfoldable pub meaning_of : List ℕ → Result Meaning Unread
 meaning_of line =
     -- "empty or a constant line: skip"
-    cond (is_empty line || is_constant line) Nothing
+    cond (is_empty line || is_constant line) (Ok Nothing)
     -- "Starts with `.DB`: add words less one."
-    (cond (starts (codes ".DB") line) (Bytes (words line - 1))
+    (cond (starts (codes ".DB") line) (Ok (Bytes (words line - 1)))
     -- "Starts with `.STRING`"
     (cond (starts (codes ".STRING") line) (string_of line)
     -- "Label: record the address"
-    (cond (is_label line) Label
+    (cond (is_label line) (Ok Label)
     (operation_of (named (first_word line))))))

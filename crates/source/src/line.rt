@@ -8,7 +8,7 @@ use scan::class::Class;
 use scan::scan::{first, last};
 
 // A stretch of a text: from its first byte to the one behind its last.
-#[derive(Clone, Copy)]
+#[derive(Clone, Copy, PartialEq, Eq, Debug)]
 pub struct Span {
     pub from: usize,
     pub to: usize,
@@ -22,14 +22,12 @@ pub fn line(raw: &[u8]) -> Span
     ensures to_in_bounds { result.to ≤ length raw.now }
 {
     let whole = trim(raw);
-    let from = whole.from;
-    let to = whole.to;
-    let trimmed = &raw[from..to];
+    let trimmed = &raw[whole.from..whole.to];
     let end = first(Class::Is(b';'), trimmed);
     let rest = trim(&trimmed[..end]);
     Span {
-        from: from + rest.from,
-        to: from + rest.to,
+        from: whole.from + rest.from,
+        to: whole.from + rest.to,
     }
 }
 
@@ -40,9 +38,6 @@ fn trim(text: &[u8]) -> Span
     ensures to_in_bounds { result.to ≤ length text.now }
 {
     let from = first(Class::Solid, text);
-    let length = last(Class::Solid, &text[from..]);
-    Span {
-        from: from,
-        to: from + length,
-    }
+    let to = from + last(Class::Solid, &text[from..]);
+    Span { from, to }
 }

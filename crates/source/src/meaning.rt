@@ -4,41 +4,43 @@ ghost use Rattle.source.specs.Meaning.{is_constant, is_label, meaning_of, operat
 ghost use Rattle.names.specs.Names.{named};
 ghost use Rattle.source.specs.Words.{first_word};
 
-use crate::word::{first_word_is, starts_with, words};
+use crate::word::{first_word, first_word_is, starts_with, words};
 use names::name::from_name;
-use op::operation::Lookup;
 use scan::class::Class;
 use scan::scan::{first, last, some};
 
-// Nothing, so many bytes of a rule, a label, a string without its two quotes, or a first word that is no operation.
-#[derive(Clone, Copy)]
+// Nothing, so many bytes of a rule, or a label.
+#[derive(Clone, Copy, PartialEq, Eq, Debug)]
 pub enum Meaning {
     Nothing,
     Bytes(usize),
     Label,
+}
+
+// Why a line means nothing that is known: a string without its two quotes, or a first word that is no operation.
+#[derive(Clone, Copy, PartialEq, Eq, Debug)]
+pub enum Unread {
     ShortString,
     NoOperation,
 }
 
 impl Meaning {
-    // The line is what `line` leaves of it. The order is the paper's: `.DB:` is data and no label.
-    pub fn of(line: &[u8]) -> Meaning
+    // The line is what `line` leaves of it. The order matters: `.DB:` is data and no label.
+    #[tactic(auto, using(crate::proofs::WordLaws::data_words), unfolding(crate::specs::Meaning::meaning_of))]
+    pub fn of(line: &[u8]) -> Result<Meaning, Unread>
         ensures { result ≡ meaning_of line.now }
     {
-        if line.len() == 0 {
-            return Meaning::Nothing;
-        }
-        if is_constant(line) {
-            return Meaning::Nothing;
+        if line.is_empty() || is_constant(line) {
+            return Ok(Meaning::Nothing);
         }
         if starts_with(line, b".DB") {
-            return Meaning::Bytes(words(line) - 1);
+            return Ok(Meaning::Bytes(words(line) - 1));
         }
         if starts_with(line, b".STRING") {
             return string(line);
         }
         if is_label(line) {
-            return Meaning::Label;
+            return Ok(Meaning::Label);
         }
         operation(line)
     }
@@ -53,33 +55,29 @@ pub fn is_constant(line: &[u8]) -> bool
 pub fn is_label(line: &[u8]) -> bool
     ensures { result ≡ is_label line.now }
 {
-    if last(Class::Is(b':'), line) < line.len() {
-        return false;
-    }
-    if some(Class::Blank, line) {
-        return false;
-    }
-    some(Class::IsNot(b':'), line)
+    last(Class::Is(b':'), line) == line.len()
+        && !some(Class::Blank, line)
+        && some(Class::IsNot(b':'), line)
 }
 
 // The bytes between first and last quote, and the 0 behind them.
-fn string(line: &[u8]) -> Meaning
+#[tactic(auto, using(scan::proofs::ScanLaws::two_apart))]
+fn string(line: &[u8]) -> Result<Meaning, Unread>
     ensures { result ≡ string_of line.now }
 {
     let from = first(Class::Is(b'"'), line);
     let to = last(Class::Is(b'"'), line);
     if to <= from + 1 {
-        return Meaning::ShortString;
+        return Err(Unread::ShortString);
     }
-    Meaning::Bytes(to - from - 1)
+    Ok(Meaning::Bytes(to - from - 1))
 }
 
-fn operation(line: &[u8]) -> Meaning
+fn operation(line: &[u8]) -> Result<Meaning, Unread>
     ensures { result ≡ operation_of (named (first_word line.now)) }
 {
-    let end = first(Class::Blank, line);
-    match from_name(&line[..end]) {
-        Lookup::Found(op) => Meaning::Bytes(op.instruction_len() as usize),
-        Lookup::Unknown => Meaning::NoOperation,
+    match from_name(first_word(line)) {
+        Some(op) => Ok(Meaning::Bytes(usize::from(op.instruction_len()))),
+        None => Err(Unread::NoOperation),
     }
 }

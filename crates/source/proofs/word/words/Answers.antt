@@ -1,27 +1,19 @@
--- Each turn counts a word where one begins.
-use Rattle.std.proofs.Common.{get_or, arith}
-use Rattle.std.proofs.Math.ListN.{drop_of_length-le}
-use Rattle.scan.specs.Class.{passes}
-use Rattle.source.specs.Words.{words_in}
-use Rattle.source.proofs.WordLaws.{words_on, begun_one}
+-- The chain counts the parts between blanks that are not empty.
+use Rattle.std.proofs.Common.{◌∙◌, nat_eq, not, length, rules, tests}
+use Rattle.std.proofs.lemmas.Iterator.Consumers.{count_from_yields_List, YieldsList-at, YieldsList-from_filter}
+use Rattle.std.proofs.lemmas.Iterator.Splits.{YieldsList-from_slice_split}
+use Rattle.scan.specs.Class.{blank, passes}
+use Rattle.source.proofs.WordLaws.{words_filled}
 use Rattle.source.proofs.word.words.Goals as goal
 
-pub overflow_add-count : goal.overflow_add-count
-overflow_add-count c = omega (arith, c.begun-count.ensures, begun_one c.loop-i.inside (get_or c.args.line.now c.loop-i.i 0))
-
-pub loop-i-preserved : goal.loop-i-preserved
-unfolding passes
-loop-i-preserved c =
-    let l = c.loop-i in
-    let line = c.args.line.now in
-    let began = c.begun-count.ensures in
-    let more = words_on l.inside line l.i (omega arith) in (
-      omega arith,
-      omega (arith, began, begun_one l.inside (get_or line l.i 0)),
-      rw c.passes-inside.ensures (omega (arith, began, more, l.invariant.2)),
-    )
-
 pub returns : goal.returns
-unfolding words_in
+unfolding passes
 returns c =
-    let all = rw (drop_of_length-le _ c.loop-i-test.false) at c.loop-i.invariant.2 in omega (arith, all)
+    let line = c.args.line.now in
+    count_from_yields_List c.filter.result c.count.result c.count.ensures.ran
+    (YieldsList-from_filter _ (λ part. not (nat_eq (length part) 0))
+    (YieldsList-at c.filter.ensures.source
+    (YieldsList-from_slice_split _ blank line c.split.ensures.rest c.split.ensures.done c.split.ensures.closure (λ x r q k. search (rules, tests))))
+    c.filter.ensures.closure
+    (λ x r q k. search (rules, tests)))
+    ∙ words_filled line
