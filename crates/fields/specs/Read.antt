@@ -4,6 +4,10 @@ use Rattle.std.specs.Prelude.{ℕ, zero, suc, ◌+◌, ◌*◌, ◌-◌, cond, L
 abbrev pub byte_at : List ℕ → ℕ → ℕ
 byte_at bytes at = get_or bytes at 0
 
+-- the same of a list whose items have a number each; nothing is the item whose number is 0
+abbrev pub value_at : {A : Type 0} → (A → ℕ) → A → List A → ℕ → ℕ
+value_at value nothing items at = value (get_or items at nothing)
+
 -- "Numbers longer than a byte are four bytes, the highest first"; 0 where fewer are left
 unfoldable pub word_at : List ℕ → ℕ → ℕ
 word_at bytes at =
