@@ -7,9 +7,12 @@ use native.Mathlib.Omega.{arith}
 use borrow.Author.Tests.{le-leb, lt-leb}
 use Rattle.effect.specs.Numbers.{fault_number, number_of}
 use Rattle.effect.proofs.Laws.{fault_high}
-use Rattle.nanocore.specs.declared.answer.StepAnswer.{StepAnswer}
-use Rattle.nanocore.specs.declared.answer.StepAnswer.TheVariants.{Stepped, AlreadyHalted, CountFull}
-use Rattle.nanocore.specs.declared.answer.StepOutcome.{StepOutcome}
+use Rattle.std.specs.Prelude.{Result, Ok, Err}
+use Rattle.nanocore.specs.declared.answer.Completed.{Completed}
+use Rattle.nanocore.specs.declared.answer.Completed.TheVariants.{Stepped, Halted}
+use Rattle.nanocore.specs.declared.answer.Outcome.{Outcome}
+use Rattle.nanocore.specs.declared.answer.StepRefusal.{StepRefusal}
+use Rattle.nanocore.specs.declared.answer.StepRefusal.TheVariants.{AlreadyHalted, CountFull}
 use Rattle.nanocore.specs.Machine.{most_count}
 use Rattle.nanocore.specs.Numbers.{step_number, stepping}
 use Rattle.nanocore.specs.Step.{Situation, refused_at, situated, step_of}
@@ -20,13 +23,13 @@ use Rattle.trace.specs.Seen.{as_look}
 
 -- what the code makes of the step's answer is what the definition does
 as_look_lem :
-    (a : StepAnswer) (limit : ℕ) (s : Situation) → (number_of (step_number a) ≡ 2 → ⊥) → (number_of (step_number a) ≡ 9 → ⊥) →
+    (a : Result Completed StepRefusal) (limit : ℕ) (s : Situation) → (number_of (step_number a) ≡ 2 → ⊥) → (number_of (step_number a) ≡ 9 → ⊥) →
     refused_at (look_number (as_look a limit)) s ≡ look_after (completed (step_number a)) (refused_at (step_number a) s)
-as_look_lem Stepped limit s two nine = refl
-as_look_lem StepAnswer.Halted limit s two nine = refl
-as_look_lem AlreadyHalted limit s two nine = absurd (two refl)
-as_look_lem (StepAnswer.Refused f) limit s two nine = rw (lt-leb (number_of (fault_number f)) 1 (fault_high f))
-as_look_lem CountFull limit s two nine = absurd (nine refl)
+as_look_lem (Ok Stepped) limit s two nine = refl
+as_look_lem (Ok Halted) limit s two nine = refl
+as_look_lem (Err AlreadyHalted) limit s two nine = absurd (two refl)
+as_look_lem (Err (StepRefusal.Fault f)) limit s two nine = rw (lt-leb (number_of (fault_number f)) 1 (fault_high f))
+as_look_lem (Err CountFull) limit s two nine = absurd (nine refl)
 
 -- the step of a look answers neither 2 nor 9
 step_plain :
@@ -52,7 +55,7 @@ module _ (input : List ℕ) (s : Situation) where
   look_taken h b = rw (h, lt-leb _ _ b)
 
 pub look_stepped :
-    (input : List ℕ) (s : Situation) (last : StepOutcome) (out : List ℕ) → s.machine.halted ≡ false →
+    (input : List ℕ) (s : Situation) (last : Outcome (Result Completed StepRefusal)) (out : List ℕ) → s.machine.halted ≡ false →
     s.machine.count < s.machine.limit → s.machine.limit ≤ most_count → stepping last out ≡ step_of input s →
     refused_at (look_number (as_look last.answer s.machine.limit)) (situated last.machine last.place out last.written)
     ≡ look_of input s

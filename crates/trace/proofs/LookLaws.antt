@@ -9,8 +9,10 @@ use lib.Dec.{leb}
 use borrow.Author.Tests.{leb-true, leb-false, lt-leb}
 use Rattle.effect.specs.Numbers.{number_of}
 use Rattle.effect.proofs.Laws.{fault_high}
-use Rattle.nanocore.specs.declared.answer.RunAnswer.{RunAnswer}
-use Rattle.nanocore.specs.declared.answer.RunAnswer.TheVariants.{LimitReached}
+use Rattle.std.specs.Prelude.{Option, Some, Result, Ok, Err}
+use Rattle.nanocore.specs.declared.answer.Outcome.{Outcome}
+use Rattle.nanocore.specs.declared.answer.RunRefusal.{RunRefusal}
+use Rattle.nanocore.specs.declared.answer.RunRefusal.TheVariants.{LimitReached}
 use Rattle.nanocore.specs.declared.machine.Machine.{Machine}
 use Rattle.nanocore.specs.Numbers.{run_number}
 use Rattle.nanocore.specs.Run.{onward, run_of}
@@ -19,8 +21,6 @@ use Rattle.nanocore.proofs.RunLaws.{run_full, run_halted, stopped}
 use Rattle.steps.specs.Trace.{completed}
 use Rattle.steps.proofs.Outcome.{by_outcome}
 use Rattle.steps.proofs.Trace.{fuel_never_decides, run_more, run_stops}
-use Rattle.trace.specs.declared.answer.Look.TheVariants.{Ended}
-use Rattle.trace.specs.declared.answer.LookOutcome.{LookOutcome}
 use Rattle.trace.specs.Look.{look_after, look_by, looking, look_number, look_of}
 
 -- how many looks at most are still to complete a step
@@ -97,14 +97,14 @@ module _ (input : List ℕ) (s : Situation) {r : Answered} (e : r ≡ look_of in
   look_less = here.less
 
 -- a run's answer is never none
-pub answered : (a : RunAnswer) → run_number a ≡ [] → ⊥
-answered RunAnswer.Halted none = omega (arith, ap number_of none)
-answered (RunAnswer.Refused f) none = omega (arith, fault_high f, ap number_of none)
-answered (LimitReached limit) none = omega (arith, ap number_of none)
+pub answered : (a : Result Unit RunRefusal) → run_number a ≡ [] → ⊥
+answered (Ok halted) none = omega (arith, ap number_of none)
+answered (Err (RunRefusal.Fault f)) none = omega (arith, fault_high f, ap number_of none)
+answered (Err (LimitReached limit)) none = omega (arith, ap number_of none)
 
 -- a look that ended tells the run's answer
 pub look_told :
-    (input : List ℕ) (s : Situation) (r : LookOutcome) (out : List ℕ) (a : RunAnswer) → looking r out ≡ look_of input s → r.look ≡ Ended a →
+    (input : List ℕ) (s : Situation) (r : Outcome (Option (Result Unit RunRefusal))) (out : List ℕ) (a : Result Unit RunRefusal) → looking r out ≡ look_of input s → r.answer ≡ Some a →
     refused_at (run_number a) (looking r out).after ≡ run_of input s
 look_told input s r out a e told =
     sym (ap (λ l. refused_at (look_number l) (looking r out).after) told)

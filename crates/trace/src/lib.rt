@@ -3,8 +3,6 @@
 
 // The line of a machine.
 pub mod line;
-// What a look comes back with.
-pub mod answer;
 // One look of a run.
 pub mod look;
 // Looks until one ends.

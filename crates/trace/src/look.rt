@@ -4,43 +4,42 @@ ghost use Rattle.nanocore.specs.Step.{situated};
 ghost use Rattle.trace.specs.Look.{look_of, looking};
 ghost use Rattle.trace.specs.Seen.{as_look};
 
-use crate::answer::{Look, LookOutcome};
 use console::kept;
-use nanocore::answer::{RunAnswer, StepAnswer};
+use nanocore::answer::{Completed, Outcome, RunAnswer, RunRefusal, StepAnswer, StepRefusal};
 use nanocore::machine::Machine;
 
+// The answer of the run, where it ended here. Where there is none, a step completed, HLT's too: there is a next look.
 pub fn look(
     machine: Machine,
     input: &[u8],
     place: usize,
     output: &mut [u8],
     written: usize,
-) -> LookOutcome
+) -> Outcome<Option<RunAnswer>>
     ensures { looking result output.new ≡ look_of input.now (situated machine place output.old written) }
 {
     let count = machine.count;
     let limit = machine.limit;
     if machine.halted {
-        return LookOutcome {
-            look: Look::Ended(RunAnswer::Halted),
-            machine: machine,
-            place: place,
-            written: written,
+        return Outcome {
+            answer: Some(Ok(())),
+            machine,
+            place,
+            written,
         };
     }
     if limit <= count {
-        return LookOutcome {
-            look: Look::Ended(RunAnswer::LimitReached(limit)),
-            machine: machine,
-            place: place,
-            written: written,
+        return Outcome {
+            answer: Some(Err(RunRefusal::LimitReached(limit))),
+            machine,
+            place,
+            written,
         };
     }
     let stepped = kept::step(machine, input, place, output, written);
-    let answer = stepped.answer;
     let next = stepped.machine;
-    LookOutcome {
-        look: seen(answer, limit),
+    Outcome {
+        answer: seen(stepped.answer, limit),
         machine: next,
         place: stepped.place,
         written: stepped.written,
@@ -49,14 +48,13 @@ pub fn look(
 
 // The step of a look gives neither 2 nor 9: the machine was not halted, and a count below a limit is below the largest count. The two have what a run
 // would answer.
-fn seen(answer: StepAnswer, limit: u16) -> Look
+fn seen(answer: StepAnswer, limit: u16) -> Option<RunAnswer>
     ensures { result ≡ as_look answer limit }
 {
     match answer {
-        StepAnswer::Stepped => Look::Completed,
-        StepAnswer::Halted => Look::Completed,
-        StepAnswer::AlreadyHalted => Look::Ended(RunAnswer::Halted),
-        StepAnswer::Refused(fault) => Look::Ended(RunAnswer::Refused(fault)),
-        StepAnswer::CountFull => Look::Ended(RunAnswer::LimitReached(limit)),
+        Ok(Completed::Stepped | Completed::Halted) => None,
+        Err(StepRefusal::AlreadyHalted) => Some(Ok(())),
+        Err(StepRefusal::Fault(fault)) => Some(Err(RunRefusal::Fault(fault))),
+        Err(StepRefusal::CountFull) => Some(Err(RunRefusal::LimitReached(limit))),
     }
 }

@@ -4,9 +4,8 @@ ghost use Rattle.nanocore.specs.Numbers.{running};
 ghost use Rattle.nanocore.specs.Run.{run_of};
 ghost use Rattle.nanocore.specs.Step.{situated};
 
-use crate::answer::Look;
 use crate::look::look;
-use nanocore::answer::RunOutcome;
+use nanocore::answer::{Outcome, RunAnswer};
 use nanocore::machine::Machine;
 
 pub fn run_by_looks(
@@ -15,7 +14,7 @@ pub fn run_by_looks(
     place: usize,
     output: &mut [u8],
     written: usize,
-) -> RunOutcome
+) -> Outcome<RunAnswer>
     ensures { running result output.new ≡ run_of input.now (situated machine place output.old written) }
 {
     let mut at = machine;
@@ -24,17 +23,16 @@ pub fn run_by_looks(
     loop {
         let looked = look(at, input, read, &mut *output, printed);
         let after = looked.machine;
-        let seen = looked.look;
-        match seen {
-            Look::Ended(answer) => {
-                return RunOutcome {
-                    answer: answer,
+        match looked.answer {
+            Some(answer) => {
+                return Outcome {
+                    answer,
                     machine: after,
                     place: looked.place,
                     written: looked.written,
                 };
             }
-            Look::Completed => {
+            None => {
                 at = after;
                 read = looked.place;
                 printed = looked.written;
