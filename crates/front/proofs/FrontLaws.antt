@@ -15,8 +15,8 @@ use Rattle.instruction.specs.declared.operands.Operands.{Operands}
 use Rattle.instruction.specs.Decode.{Decoding, instruction, refused, decoded_of}
 use Rattle.instruction.specs.Plain.{is_plain, spelled, spelling_by, spelling_of}
 use Rattle.instruction.proofs.PlainLaws.{plain_first}
-use Rattle.front.specs.declared.front.Front.TheVariants.{Whole, Alone}
-use Rattle.front.specs.Front.{front_by, front_of, size_of}
+use Rattle.front.specs.declared.front.Front.TheVariants.{Alone}
+use Rattle.front.specs.Front.{front_by, front_of, size_of, whole}
 
 -- one byte at least, and no more than there are
 abbrev pub Within : ℕ → ℕ → Type 0
@@ -24,7 +24,7 @@ Within left size = (1 ≤ size) × (size ≤ left)
 
 whole_or_alone :
     (b : Bool) (o : Op) (a : Operands) (plain : Bool) (byte left : ℕ) → 0 < left → (b ≡ true → length_of (form_of o) ≤ left) →
-    Within left (size_of (cond b (Whole o a plain) (Alone byte)))
+    Within left (size_of (cond b (whole o a plain) (Alone byte)))
 whole_or_alone true o a plain byte left some fits = ((length_within (form_of o)).0, fits refl)
 whole_or_alone false o a plain byte left some fits = (omega arith, some)
 

@@ -12,8 +12,7 @@ use Rattle.fields.proofs.BytesLaws.{byte_low, bytes_take}
 use Rattle.text.specs.Text.{codes, line_end}
 use Rattle.text.proofs.WordLaws.{above_tested}
 use Rattle.op.specs.declared.operation.Op.{Op}
-use Rattle.op.specs.declared.operation.Lookup.{Lookup}
-use Rattle.op.specs.declared.operation.Lookup.TheVariants.{Found, Unknown}
+use Rattle.std.specs.Prelude.{Option, Some, None}
 use Rattle.op.specs.Operations.{decoded, form_of, length_of}
 use Rattle.names.specs.Names.{name_of, named}
 use Rattle.names.proofs.NameLaws.{name_injective, named_name}
@@ -23,8 +22,8 @@ use Rattle.instruction.specs.Decode.{decoded_of}
 use Rattle.instruction.specs.Encode.{encoded_of}
 use Rattle.instruction.specs.Plain.{is_plain}
 use Rattle.instruction.proofs.PlainLaws.{same_over_lem}
-use Rattle.front.specs.declared.front.Front.TheVariants.{Whole, Alone}
-use Rattle.front.specs.Front.{front_of, size_of}
+use Rattle.front.specs.declared.front.Front.TheVariants.{Alone}
+use Rattle.front.specs.Front.{front_of, size_of, whole}
 use Rattle.front.specs.Line.{byte_text, line_at, line_of, operands_text, spaced, then, words_of}
 use Rattle.front.specs.Tells.{LineTellsBytes, stands_for}
 use Rattle.front.proofs.SpokenLaws.{
@@ -48,12 +47,12 @@ operands_in o bytes = operands_of (form_of o) (get_or bytes 1 0) (get_or bytes 2
 -- what a line says: an instruction by its name, where the bytes are its plain spelling; or all bytes that it stands for
 data Said (bytes : List ℕ) : Type 0 where
   by_name :
-      (o : Op) → front_of bytes ≡ Whole o (operands_in o bytes) true → is_plain o (operands_in o bytes) bytes ≡ true → Said bytes
+      (o : Op) → front_of bytes ≡ whole o (operands_in o bytes) true → is_plain o (operands_in o bytes) bytes ≡ true → Said bytes
   as_data : words_of (front_of bytes) bytes ≡ then (codes ".DB") ++ spaced byte_text (stands_for bytes) → Said bytes
 
 module _ (bytes : List ℕ) (some : 0 < length bytes) where
   whole_said :
-      (o : Op) (plain : Bool) → is_plain o (operands_in o bytes) bytes ≡ plain → front_of bytes ≡ Whole o (operands_in o bytes) plain →
+      (o : Op) (plain : Bool) → is_plain o (operands_in o bytes) bytes ≡ plain → front_of bytes ≡ whole o (operands_in o bytes) plain →
       Said bytes
   whole_said o true is e = by_name o e is
   whole_said o false is e = as_data (rw e)
@@ -72,14 +71,14 @@ module _ (bytes : List ℕ) (some : 0 < length bytes) where
     where
       by_length :
           (o : Op) (fits : Bool) →
-          front_of bytes ≡ cond fits (Whole o (operands_in o bytes) (is_plain o (operands_in o bytes) bytes)) (Alone (get_or bytes 0 0)) →
+          front_of bytes ≡ cond fits (whole o (operands_in o bytes) (is_plain o (operands_in o bytes) bytes)) (Alone (get_or bytes 0 0)) →
           Said bytes
       by_length o true e = whole_said o (is_plain o (operands_in o bytes) bytes) refl e
       by_length o false e = alone_said e
 
-      by_lookup : (l : Lookup) → decoded (get_or bytes 0 0) ≡ l → Said bytes
-      by_lookup (Found o) e = by_length o (leb (length_of (form_of o)) (length bytes)) (rw e)
-      by_lookup Unknown e = alone_said (rw e)
+      by_lookup : (l : Option Op) → decoded (get_or bytes 0 0) ≡ l → Said bytes
+      by_lookup (Some o) e = by_length o (leb (length_of (form_of o)) (length bytes)) (rw e)
+      by_lookup None e = alone_said (rw e)
 
 -- as words
 abbrev heard : (bytes : List ℕ) → Said bytes → List (List ℕ)
@@ -106,9 +105,9 @@ unfolding line_of
 line_spoken a bytes s = ap (λ t. byte_text a ++ t) (heard_spoken bytes s)
 
 -- no operation is called `.DB`
-abbrev known : Lookup → Bool
-known (Found o) = true
-known Unknown = false
+abbrev known : Option Op → Bool
+known (Some o) = true
+known None = false
 
 not_data : (o : Op) → name_of o ≡ codes ".DB" → ⊥
 unfolding named
@@ -116,7 +115,7 @@ not_data o e = true≢false (ap known (sym (named_name o) ∙ ap named e))
 
 -- bytes that are listed by name are what encode gives
 by_name_stands :
-    (bytes : List ℕ) (o : Op) → front_of bytes ≡ Whole o (operands_in o bytes) true → is_plain o (operands_in o bytes) bytes ≡ true →
+    (bytes : List ℕ) (o : Op) → front_of bytes ≡ whole o (operands_in o bytes) true → is_plain o (operands_in o bytes) bytes ≡ true →
     stands_for bytes ≡ take (length_of (form_of o)) (encoded_of o (operands_in o bytes)).bytes
 by_name_stands bytes o e plain =
     rw e (sym (same_over_lem (length_of (form_of o)) (encoded_of o (operands_in o bytes)).bytes bytes plain))

@@ -1,7 +1,7 @@
 -- "each line is address, name and operands parted by one space, then LF; registers R0..R15, bytes as 0x and two upper-case digits. The line is
 -- made from the decoded operands." And, by the change request: "An instruction not in plain spelling is now one `.DB` line holding all its bytes,
 -- parted by spaces. `.DB` of one byte stays for invalid and cut ones."
-use Rattle.std.specs.Prelude.{ℕ, true, false, List, [], ◌∷◌, ◌++◌, take}
+use Rattle.std.specs.Prelude.{ℕ, cond, List, [], ◌∷◌, ◌++◌, take}
 use Rattle.digits.specs.Digit.{pair_of}
 use Rattle.text.specs.Decimal.{decimal}
 use Rattle.text.specs.Text.{codes, line_end}
@@ -38,8 +38,9 @@ spaced text (b ∷ bs) = then (text b) ++ spaced text bs
 
 -- of an instruction its name and operands where the spelling is plain, else `.DB` and all its bytes; or `.DB` and the byte that stands alone
 abbrev pub words_of : Front → List ℕ → List ℕ
-words_of (Whole o a true) bytes = then (name_of o) ++ operands_text a
-words_of (Whole o a false) bytes = then (codes ".DB") ++ spaced byte_text (take (length_of (form_of o)) bytes)
+words_of (Whole i) bytes =
+    cond i.plain (then (name_of i.op) ++ operands_text i.operands)
+    (then (codes ".DB") ++ spaced byte_text (take (length_of (form_of i.op)) bytes))
 words_of (Alone byte) bytes = then (codes ".DB") ++ then (byte_text byte)
 
 unfoldable pub line_of : ℕ → Front → List ℕ → List ℕ

@@ -3,14 +3,12 @@ ghost use Rattle.std.specs.Prelude.{◌≡◌};
 ghost use Rattle.front.specs.Front.{front_of, size_of};
 
 use fields::read::byte_at;
-use instruction::decode::{Decoded, decode};
-use instruction::operands::Operands;
-use op::operation::Op;
+use instruction::decode::{Instruction, decode};
 
-// An instruction that is there whole, with whether it is in plain spelling, or one byte alone.
-#[derive(Clone, Copy)]
+// An instruction that is there whole, or one byte alone.
+#[derive(Clone, Copy, PartialEq, Eq, Debug)]
 pub enum Front {
-    Whole(Op, Operands, bool),
+    Whole(Instruction),
     Alone(u8),
 }
 
@@ -21,14 +19,10 @@ impl Front {
     {
         let first = byte_at(bytes, 0);
         match decode(first, byte_at(bytes, 1), byte_at(bytes, 2)) {
-            Decoded::Instruction(op, operands, plain) => {
-                if op.instruction_len() as usize <= bytes.len() {
-                    Front::Whole(op, operands, plain)
-                } else {
-                    Front::Alone(first)
-                }
+            Ok(found) if usize::from(found.op.instruction_len()) <= bytes.len() => {
+                Front::Whole(found)
             },
-            Decoded::Invalid(_) => Front::Alone(first),
+            _ => Front::Alone(first),
         }
     }
 
@@ -37,7 +31,7 @@ impl Front {
         ensures { result ≡ size_of self }
     {
         match self {
-            Front::Whole(op, _, _) => op.instruction_len() as usize,
+            Front::Whole(found) => usize::from(found.op.instruction_len()),
             Front::Alone(_) => 1,
         }
     }
