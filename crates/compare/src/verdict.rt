@@ -1,12 +1,13 @@
 // How two answers compare: the first place where they part.
-ghost use Rattle.std.specs.Prelude.{◌≤◌, ◌≡◌};
-ghost use Rattle.compare.specs.Verdict.{parted, or_else};
+ghost use Rattle.std.specs.Prelude.{◌≡◌};
+ghost use Rattle.compare.specs.Verdict.{parted_by};
 
-use fields::apart::{alike, numbers_alike};
-use fields::read::{byte_at, number_at};
+use fields::apart::alike;
+use fields::number::Number;
+use fields::read::number_at;
 
 // What a difference is in.
-#[derive(Clone, Copy)]
+#[derive(Clone, Copy, PartialEq, Eq, Debug)]
 pub enum Part {
     // one of the numbers of an answer
     Number,
@@ -16,7 +17,7 @@ pub enum Part {
 }
 
 // The first number, register or byte that differs: which, what we have there and what the case has.
-#[derive(Clone, Copy)]
+#[derive(Clone, Copy, PartialEq, Eq, Debug)]
 pub struct Difference {
     pub part: Part,
     pub index: usize,
@@ -24,9 +25,9 @@ pub struct Difference {
     pub theirs: usize,
 }
 
-#[derive(Clone, Copy)]
-pub enum Verdict {
-    Same,
+// Why a case is not the same.
+#[derive(Clone, Copy, PartialEq, Eq, Debug)]
+pub enum Mismatch {
     Differs(Difference),
     // the case is not as long as it says that it is: the bytes that it needs
     Torn(usize),
@@ -34,48 +35,21 @@ pub enum Verdict {
     Unfit,
 }
 
-impl Verdict {
-    // The first of two that is not the same.
-    pub fn or_else(self, next: Verdict) -> Verdict
-        ensures { result ≡ or_else self next }
-    {
-        match self {
-            Verdict::Same => next,
-            Verdict::Differs(difference) => Verdict::Differs(difference),
-            Verdict::Torn(needed) => Verdict::Torn(needed),
-            Verdict::Unfit => Verdict::Unfit,
-        }
-    }
-}
+pub type Verdict = Result<(), Mismatch>;
 
-pub fn parted(part: Part, ours: &[u8], theirs: &[u8]) -> Verdict
-    ensures { result ≡ parted part ours.now theirs.now }
+// Whether two lists of one length are the same: bytes, or the numbers of an answer.
+#[tactic(auto, unfolding(crate::specs::Verdict::parted_by))]
+pub fn parted<T: Number>(part: Part, ours: &[T], theirs: &[T]) -> Verdict
+    ensures { result ≡ parted_by T.eq T.value T.nothing part ours.now theirs.now }
 {
     let index = alike(ours, theirs);
     if index < ours.len() {
-        Verdict::Differs(Difference {
-            part: part,
-            index: index,
-            ours: byte_at(ours, index) as usize,
-            theirs: byte_at(theirs, index) as usize,
-        })
-    } else {
-        Verdict::Same
-    }
-}
-
-pub fn numbers_parted(ours: &[usize], theirs: &[usize]) -> Verdict
-    ensures { result ≡ parted Part.Number ours.now theirs.now }
-{
-    let index = numbers_alike(ours, theirs);
-    if index < ours.len() {
-        Verdict::Differs(Difference {
-            part: Part::Number,
-            index: index,
+        return Err(Mismatch::Differs(Difference {
+            part,
+            index,
             ours: number_at(ours, index),
             theirs: number_at(theirs, index),
-        })
-    } else {
-        Verdict::Same
+        }));
     }
+    Ok(())
 }
