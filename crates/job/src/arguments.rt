@@ -1,12 +1,13 @@
 // The two arguments; more are ignored.
+ghost use Rattle.std.specs.Prelude.{IfSome};
 ghost use Rattle.files.specs.Counts.{IsPrefixLen};
 
 use crate::say;
-use program::say::failed;
+use program::say::Streams;
 use std::env::FillError;
 use std::io::Error;
-use std::rt::{Env, Stderr};
-use text::number::{Numeral, number};
+use std::rt::Env;
+use text::number::number;
 
 // Where none is given, as document 01 has it for a fresh machine.
 const LIMIT: u16 = 1024;
@@ -14,47 +15,40 @@ const LIMIT: u16 = 1024;
 // The system's number for a name that is too long.
 const NAME_TOO_LONG: i32 = 36;
 
-// The path of the rule's file and its length, or 0 after it is said why there is none.
-pub fn rule<R: Env>(rt: &R, err: Stderr, program: &[u8], path: &mut [u8]) -> usize
-    ensures { IsPrefixLen result path.new }
+// The path of the rule's file and its length, or nothing after it is said why there is none.
+pub fn rule<R: Env>(rt: &R, to: Streams, path: &mut [u8]) -> Option<usize>
+    ensures { IfSome result (λ length. IsPrefixLen length path.new) }
 {
     match rt.arg(1, path) {
-        Ok(0) => {
-            say::usage(err, program);
-            0
+        Ok(0) | Err(FillError::NotPresent) => {
+            say::usage(to);
+            None
         }
-        Ok(length) => length,
-        Err(FillError::NotPresent) => {
-            say::usage(err, program);
-            0
-        }
+        Ok(length) => Some(length),
         Err(FillError::TooLong) => {
-            let reason = Error::from_raw_os_error(NAME_TOO_LONG);
-            failed(err, program, b"RULE", reason);
-            0
+            to.failed(b"RULE", Error::from_raw_os_error(NAME_TOO_LONG));
+            None
         }
     }
 }
 
-// A limit that is not there counts as empty.
-pub fn limit<R: Env>(rt: &R, err: Stderr, program: &[u8]) -> Numeral {
+// A limit that is not there counts as empty. Where what is there is none, it is said.
+pub fn limit<R: Env>(rt: &R, to: Streams) -> Option<u16> {
     let mut text = [0u8; 4096];
     match rt.arg(2, &mut text) {
-        Ok(0) => Numeral::Number(LIMIT),
-        Ok(length) => read_limit(err, program, &text[..length]),
-        Err(FillError::NotPresent) => Numeral::Number(LIMIT),
+        Ok(0) | Err(FillError::NotPresent) => Some(LIMIT),
+        Ok(length) => read_limit(to, &text[..length]),
         Err(FillError::TooLong) => {
-            say::no_limit(err, program, b"that");
-            Numeral::NoNumber
+            say::no_limit(to, b"that");
+            None
         }
     }
 }
 
-fn read_limit(err: Stderr, program: &[u8], text: &[u8]) -> Numeral {
+fn read_limit(to: Streams, text: &[u8]) -> Option<u16> {
     let limit = number(text);
-    match limit {
-        Numeral::Number(n) => {}
-        Numeral::NoNumber => say::no_limit(err, program, text),
+    if limit.is_none() {
+        say::no_limit(to, text);
     }
     limit
 }

@@ -1,18 +1,16 @@
 // What is said on standard error where there is no job.
-use program::say::{end, said};
-use std::rt::Stderr;
+use program::say::Streams;
 
-pub fn usage(err: Stderr, program: &[u8]) {
-    said(err, b"usage: ");
-    said(err, program);
-    end(err, b" RULE [LIMIT]");
+pub fn usage(to: Streams) {
+    let _ = eprintln!(to.err; "usage: {} RULE [LIMIT]", to.program);
 }
 
-pub fn no_limit(err: Stderr, program: &[u8], text: &[u8]) {
-    said(err, program);
-    said(
-        err,
-        b": LIMIT is a number of 0 to 65535 without leading zeros, not ",
+// What stands in the limit's place need not be UTF-8.
+pub fn no_limit(to: Streams, text: &[u8]) {
+    let _ = eprint!(to.err;
+        "{}: LIMIT is a number of 0 to 65535 without leading zeros, not ",
+        to.program
     );
-    end(err, text);
+    to.tell(text);
+    to.tell(b"\n");
 }
