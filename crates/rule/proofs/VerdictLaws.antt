@@ -7,8 +7,9 @@ use lib.ListN.{length, length-append, take}
 use Rattle.effect.specs.declared.Fault.{Fault}
 use Rattle.effect.specs.declared.Fault.TheVariants.{InvalidOpcode, StackFull, StackEmpty, DivisorZero, NoInput, NoRoom}
 use Rattle.effect.specs.Numbers.{fault_number}
-use Rattle.nanocore.specs.declared.answer.RunAnswer.{RunAnswer}
-use Rattle.nanocore.specs.declared.answer.RunAnswer.TheVariants.{LimitReached}
+use Rattle.std.specs.Prelude.{Result, Ok, Err}
+use Rattle.nanocore.specs.declared.answer.RunRefusal.{RunRefusal}
+use Rattle.nanocore.specs.declared.answer.RunRefusal.TheVariants.{LimitReached}
 use Rattle.nanocore.specs.Numbers.{run_number}
 use Rattle.text.specs.Lines.{named, lined}
 use Rattle.text.specs.Text.{codes}
@@ -27,10 +28,10 @@ FaultInRange NoInput = Unit
 FaultInRange NoRoom = Unit
 
 -- a limit has two bytes
-abbrev pub InRange : RunAnswer → Type 0
-InRange RunAnswer.Halted = Unit
-InRange (RunAnswer.Refused f) = FaultInRange f
-InRange (LimitReached limit) = limit < 65536
+abbrev pub InRange : Result Unit RunRefusal → Type 0
+InRange (Ok halted) = Unit
+InRange (Err (RunRefusal.Fault f)) = FaultInRange f
+InRange (Err (LimitReached limit)) = limit < 65536
 
 refusal_few : (n : ℕ) → n < 100 → length (refusal n) ≤ 10
 refusal_few n h = omega (arith, few_digits 1 n h)
@@ -54,12 +55,12 @@ fault_few (DivisorZero opcode) h = with_value 6 opcode [] (omega arith) (omega a
 fault_few NoInput h = omega (arith, refusal_few 7 (omega arith))
 fault_few NoRoom h = omega (arith, refusal_few 8 (omega arith))
 
-said_few : (a : RunAnswer) → InRange a → length (said (run_number a)) ≤ 23
-said_few RunAnswer.Halted h = omega arith
-said_few (RunAnswer.Refused f) h = fault_few f h
-said_few (LimitReached limit) h = with_value 10 limit [] (omega arith) (omega arith) h
+said_few : (a : Result Unit RunRefusal) → InRange a → length (said (run_number a)) ≤ 23
+said_few (Ok halted) h = omega arith
+said_few (Err (RunRefusal.Fault f)) h = fault_few f h
+said_few (Err (LimitReached limit)) h = with_value 10 limit [] (omega arith) (omega arith) h
 
-module _ (a : RunAnswer) (count pc : ℕ) (h : InRange a) (hc : count < 65536) (hp : pc < 256) where
+module _ (a : Result Unit RunRefusal) (count pc : ℕ) (h : InRange a) (hc : count < 65536) (hp : pc < 256) where
   pub verdict_fits : length (verdict_of (run_number a) count pc) ≤ 64
   unfolding verdict_of
   verdict_fits =

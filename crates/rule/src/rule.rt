@@ -4,7 +4,7 @@ ghost use Rattle.nanocore.specs.Numbers.{loading};
 ghost use Rattle.rule.specs.Rule.{ending, ran_from, rule_loaded, rule_of};
 
 use crate::verdict::{too_long, verdict};
-use nanocore::answer::{LoadAnswer, LoadOutcome};
+use nanocore::answer::{Handed, LoadAnswer};
 use nanocore::machine::Machine;
 use text::line::Line;
 
@@ -16,7 +16,7 @@ pub struct Ending {
 }
 
 // A fresh machine that has the limit, with the rule loaded at 0.
-pub fn load_rule(rule: &[u8], limit: u16) -> LoadOutcome
+pub fn load_rule(rule: &[u8], limit: u16) -> Handed<LoadAnswer>
     ensures { loading result ≡ rule_loaded rule.now limit }
 {
     let mut machine = Machine::fresh();
@@ -28,13 +28,12 @@ pub fn run_rule(rule: &[u8], limit: u16, input: &[u8], output: &mut [u8]) -> End
     ensures { ending result output.new ≡ rule_of rule.now limit input.now output.old }
 {
     let loaded = load_rule(rule, limit);
-    let answer = loaded.answer;
-    match answer {
-        LoadAnswer::TooLong { length, start } => Ending {
-            verdict: too_long(length, start),
+    match loaded.answer {
+        Ok(()) => run_loaded(loaded.machine, input, output),
+        Err(refused) => Ending {
+            verdict: too_long(refused.length, refused.start),
             written: 0,
         },
-        LoadAnswer::Loaded => run_loaded(loaded.machine, input, output),
     }
 }
 
@@ -42,10 +41,9 @@ fn run_loaded(machine: Machine, input: &[u8], output: &mut [u8]) -> Ending
     ensures { ending result output.new ≡ ran_from machine input.now output.old }
 {
     let ran = machine.run(input, 0, output, 0);
-    let answer = ran.answer;
     let after = ran.machine;
     Ending {
-        verdict: verdict(answer, after.count, after.pc),
+        verdict: verdict(ran.answer, after.count, after.pc),
         written: ran.written,
     }
 }

@@ -6,7 +6,7 @@ ghost use Rattle.text.specs.Lines.{lined};
 ghost use Rattle.rule.specs.Verdict.{refusal, said, too_long, verdict_of};
 
 use effect::Fault;
-use nanocore::answer::RunAnswer;
+use nanocore::answer::{RunAnswer, RunRefusal};
 use text::line::Line;
 
 // How a run ended, and the count and the pc that its machine was left with.
@@ -33,9 +33,9 @@ fn said(answer: RunAnswer) -> Line
     ensures { result ≡ lined (said (run_number answer)) }
 {
     match answer {
-        RunAnswer::Halted => Line::empty().text(b"halted"),
-        RunAnswer::Refused(fault) => faulted(fault),
-        RunAnswer::LimitReached(limit) => refused(10).named(b"limit", limit as usize),
+        Ok(()) => Line::empty().text(b"halted"),
+        Err(RunRefusal::Fault(fault)) => faulted(fault),
+        Err(RunRefusal::LimitReached(limit)) => refused(10).named(b"limit", limit as usize),
     }
 }
 
@@ -44,7 +44,7 @@ fn faulted(fault: Fault) -> Line
     ensures { result ≡ lined (said (fault_number fault)) }
 {
     match fault {
-        Fault::InvalidOpcode { opcode, pc } => refused(3).named(b"opcode", opcode as usize),
+        Fault::InvalidOpcode { opcode, .. } => refused(3).named(b"opcode", opcode as usize),
         Fault::StackFull(sp) => refused(4).named(b"sp", sp as usize),
         Fault::StackEmpty(sp) => refused(5).named(b"sp", sp as usize),
         Fault::DivisorZero(opcode) => refused(6).named(b"opcode", opcode as usize),
