@@ -14,32 +14,29 @@ use crate::Carried;
 pub fn overflowing_add(a: u8, b: u8) -> Carried
     ensures { result ≡ sum_of a b }
 {
-    Carried {
-        value: std::num::wrapping_add_u8(a, b),
-        carry: 255 < (a as u16) + (b as u16),
-    }
+    let (value, carry) = a.overflowing_add(b);
+    Carried { value, carry }
 }
 
 // The difference modulo 256, in the form that the stack steps and the arithmetic cite.
 pub fn wrapping_sub(a: u8, b: u8) -> u8
     ensures { result ≡ wrapped_sub a b }
 {
-    std::num::wrapping_sub_u8(a, b)
+    a.wrapping_sub(b)
 }
 
 pub fn overflowing_sub(a: u8, b: u8) -> Carried
     ensures { result ≡ difference_of a b }
 {
-    Carried {
-        value: wrapping_sub(a, b),
-        carry: a < b,
-    }
+    let (value, carry) = a.overflowing_sub(b);
+    Carried { value, carry }
 }
 
+// By the exact product: where the library's method looks for a carry, it divides.
 pub fn overflowing_mul(a: u8, b: u8) -> Carried
     ensures { result ≡ product_of a b }
 {
-    let exact = (a as u16) * (b as u16);
+    let exact = u16::from(a) * u16::from(b);
     Carried {
         value: (exact % 256) as u8,
         carry: 255 < exact,
@@ -50,14 +47,8 @@ pub fn overflowing_mul(a: u8, b: u8) -> Carried
 pub fn overflowing_div(a: u8, b: u8) -> Carried
     ensures { result ≡ quotient_of a b }
 {
-    if b == 0 {
-        return Carried {
-            value: 0,
-            carry: false,
-        };
-    }
     Carried {
-        value: a / b,
+        value: a.checked_div(b).unwrap_or(0),
         carry: false,
     }
 }
@@ -66,14 +57,8 @@ pub fn overflowing_div(a: u8, b: u8) -> Carried
 pub fn overflowing_rem(a: u8, b: u8) -> Carried
     ensures { result ≡ remainder_of a b }
 {
-    if b == 0 {
-        return Carried {
-            value: a,
-            carry: false,
-        };
-    }
     Carried {
-        value: a % b,
+        value: a.checked_rem(b).unwrap_or(a),
         carry: false,
     }
 }

@@ -27,20 +27,22 @@ pub fn shift_right(a: u8) -> Carried
     }
 }
 
+#[tactic(auto, using(crate::proofs::Rotated::left))]
 pub fn rotate_left(a: u8) -> Carried
     ensures { result ≡ rotated_left a }
 {
     Carried {
-        value: (a << 1) + a / 128,
+        value: a.rotate_left(1),
         carry: a / 128 == 1,
     }
 }
 
+#[tactic(auto, using(crate::proofs::Rotated::right))]
 pub fn rotate_right(a: u8) -> Carried
     ensures { result ≡ rotated_right a }
 {
     Carried {
-        value: (a >> 1) + a % 2 * 128,
+        value: a.rotate_right(1),
         carry: a % 2 == 1,
     }
 }
