@@ -1,2 +1,1 @@
-mod BytesLaws
 pub mod RoomLaws

@@ -6,6 +6,7 @@ use Prim.Native.Nat.{ℕ, zero, suc, ◌/◌, ◌≤◌}
 use native.Mathlib.Omega.{arith}
 use lib.Dec.{eqb}
 use lib.ListN.{length, length-append, length-take, take}
+use Rattle.op.specs.declared.operation.Op.{Op}
 use Rattle.op.specs.Operations.{form_of, length_of}
 use Rattle.op.proofs.Laws.{length_within}
 use Rattle.names.proofs.NameLaws.{name_short}
@@ -19,7 +20,7 @@ use Rattle.text.specs.Text.{codes, line_end}
 use Rattle.text.proofs.LineLaws.{Holds, line_holds}
 use Rattle.front.specs.declared.front.Front.{Front}
 use Rattle.front.specs.declared.front.Front.TheVariants.{Whole, Alone}
-use Rattle.front.specs.Front.{front_of}
+use Rattle.front.specs.Front.{front_of, whole}
 use Rattle.front.specs.Line.{byte_text, register_text, spaced, then, operands_text, words_of, line_of, line_at}
 use Rattle.front.proofs.SpacedLaws.{spaced_length}
 
@@ -50,9 +51,9 @@ operands_few (RegReg d s) = and_word d (then (register_text s)) (register_few s)
 operands_few (RegAddr r a) = and_word r (then (byte_text a)) (omega arith)
 operands_few (Addr a) = omega arith
 
-words_few : (front : Front) (bytes : List ℕ) → length (words_of front bytes) ≤ 50
-words_few (Whole o a true) bytes = omega (arith, length-append (then (name_of o)) (operands_text a), name_short o, operands_few a)
-words_few (Whole o a false) bytes =
+words_by : (plain : Bool) (o : Op) (a : Operands) (bytes : List ℕ) → length (words_of (whole o a plain) bytes) ≤ 50
+words_by true o a bytes = omega (arith, length-append (then (name_of o)) (operands_text a), name_short o, operands_few a)
+words_by false o a bytes =
     let said = take (length_of (form_of o)) bytes in
     omega (
       arith,
@@ -61,6 +62,9 @@ words_few (Whole o a false) bytes =
       length-take (length_of (form_of o)) bytes,
       (length_within (form_of o)).1,
     )
+
+words_few : (front : Front) (bytes : List ℕ) → length (words_of front bytes) ≤ 50
+words_few (Whole i) bytes = words_by i.plain i.op i.operands bytes
 words_few (Alone byte) bytes = omega arith
 
 pub line_short : (address : ℕ) (bytes : List ℕ) → length (line_at address bytes) ≤ 64

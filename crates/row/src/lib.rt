@@ -1,5 +1,5 @@
 // One line of a listing, written.
-#![tactic(auto)]
+#![tactic(auto, using(text::proofs::LineLaws::appended_twice))]
 
 // The line of what the bytes begin with.
 pub mod line;

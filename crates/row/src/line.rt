@@ -1,5 +1,6 @@
 // A line of the listing.
-ghost use Rattle.std.specs.Prelude.{◌≡◌, take};
+ghost use Rattle.std.specs.Prelude.{◌≡◌, ◌++◌};
+ghost use Rattle.digits.specs.Digit.{pair_of};
 ghost use Rattle.names.specs.Names.{name_of};
 ghost use Rattle.text.specs.Lines.{appended, lined};
 ghost use Rattle.front.specs.Line.{byte_text, line_of, operands_text, register_text, spaced, then, words_of};
@@ -7,11 +8,12 @@ ghost use Rattle.front.specs.Line.{byte_text, line_of, operands_text, register_t
 use digits::digit::pair;
 use front::front::Front;
 use instruction::operands::Operands;
-use names::name::Name;
+use names::name::name;
 use op::operation::Op;
 use text::line::Line;
 
 // Address, name and operands; or address, `.DB` and the bytes.
+#[tactic(auto, using(text::proofs::LineLaws::appended_twice), unfolding(front::specs::Line::line_of))]
 pub fn line(address: u8, front: Front, bytes: &[u8]) -> Line
     ensures { result ≡ lined (line_of address front bytes.now) }
 {
@@ -21,28 +23,27 @@ pub fn line(address: u8, front: Front, bytes: &[u8]) -> Line
 
 // Below, each puts its words behind what the line has already.
 
+// Of an instruction that is not plain all bytes are said, or as many as there are.
 fn words(line: Line, front: Front, bytes: &[u8]) -> Line
     ensures { result ≡ appended line (words_of front bytes.now) }
 {
     match front {
-        Front::Whole(op, operands, plain) => {
-            if plain {
-                operand_words(name(line, op), operands)
+        Front::Whole(found) => {
+            if found.plain {
+                operand_words(then_name(line, found.op), found.operands)
             } else {
-                then_bytes(line.text(b" .DB"), bytes, op.instruction_len() as usize)
+                let few = usize::from(found.op.instruction_len()).min(bytes.len());
+                then_bytes(line.text(b" .DB"), &bytes[..few], b"0x")
             }
         },
         Front::Alone(b) => then_byte(line.text(b" .DB"), b),
     }
 }
 
-fn name(line: Line, op: Op) -> Line
+fn then_name(line: Line, op: Op) -> Line
     ensures { result ≡ appended line (then (name_of op)) }
 {
-    let name = Name::of(op);
-    let bytes = name.bytes;
-    let length = name.length;
-    line.text(b" ").text(&bytes[..length])
+    line.text(b" ").text(name(op).as_bytes())
 }
 
 fn operand_words(line: Line, operands: Operands) -> Line
@@ -51,9 +52,8 @@ fn operand_words(line: Line, operands: Operands) -> Line
     match operands {
         Operands::None => line,
         Operands::Reg(r) => then_register(line, r),
-        Operands::RegImm(r, v) => then_byte(then_register(line, r), v),
+        Operands::RegImm(r, b) | Operands::RegAddr(r, b) => then_byte(then_register(line, r), b),
         Operands::RegReg(d, s) => then_register(then_register(line, d), s),
-        Operands::RegAddr(r, a) => then_byte(then_register(line, r), a),
         Operands::Addr(a) => then_byte(line, a),
     }
 }
@@ -61,7 +61,7 @@ fn operand_words(line: Line, operands: Operands) -> Line
 fn then_register(line: Line, register: u8) -> Line
     ensures { result ≡ appended line (then (register_text register)) }
 {
-    line.text(b" R").decimal(register as usize)
+    line.text(b" R").decimal(usize::from(register))
 }
 
 fn then_byte(line: Line, b: u8) -> Line
@@ -70,23 +70,19 @@ fn then_byte(line: Line, b: u8) -> Line
     byte(line.text(b" "), b)
 }
 
-// The first few bytes, or all where there are fewer.
-fn then_bytes(line: Line, bytes: &[u8], few: usize) -> Line
-    ensures { result ≡ appended line (spaced byte_text (take few bytes.now)) }
-{
-    let mut said = line;
-    let mut at: usize = 0;
-    while at < few && at < bytes.len() {
-        said = then_byte(said, bytes[at]);
-        at += 1;
-    }
-    said
-}
-
 // 0x and two upper-case digits.
 pub fn byte(line: Line, b: u8) -> Line
     ensures { result ≡ appended line (byte_text b) }
 {
-    let digits = pair(b);
-    line.text(b"0x").text(&digits)
+    line.text(b"0x").text(&pair(b))
+}
+
+// Each byte behind a space: the lead, and two upper-case digits.
+pub fn then_bytes(mut line: Line, bytes: &[u8], lead: &[u8]) -> Line
+    ensures { result ≡ appended line (spaced (λ b. lead.now ++ pair_of b) bytes.now) }
+{
+    for b in bytes {
+        line = line.text(b" ").text(lead).text(&pair(*b));
+    }
+    line
 }

@@ -1,41 +1,26 @@
--- Each turn says the next of the few bytes; at the end all are said.
-use Rattle.std.proofs.Common.{◌≡◌, sym, ◌∙◌, ap, ℕ, ◌+◌, ◌≤◌, List, length, get_or, take, drop, arith, rules}
-use Prim.Native.Nat.{min}
-use Rattle.text.specs.declared.line.Line.{Line}
+-- Each turn says the next byte behind a space.
+use Rattle.std.proofs.Common.{ℕ, List, sym, ◌∙◌, ap, ◌+◌, ◌++◌, get_or, drop, drop_of_length-le}
+use Rattle.digits.specs.Digit.{pair_of}
 use Rattle.text.specs.Lines.{appended}
+use Rattle.text.specs.Text.{codes}
 use Rattle.text.proofs.LineLaws.{onto}
-use Rattle.front.specs.Line.{byte_text, spaced, then}
-use Rattle.row.proofs.BytesLaws.{bytes_next, bytes_none}
+use Rattle.front.specs.Line.{spaced, then}
+use Rattle.front.proofs.SpacedLaws.{spaced_next}
 use Rattle.row.proofs.line.then_bytes.Goals as goal
 
-pub loop-at-preserved : goal.loop-at-preserved
-loop-at-preserved c =
-    let l = c.loop-at in
+pub loop-b-preserved : goal.loop-b-preserved
+loop-b-preserved c =
+    let l = c.loop-b in
     let bytes = c.args.bytes.now in
-    let few = c.args.few in
-    let next = bytes_next bytes few l.at (omega arith) c.if-at-bytes.true in (
-      omega arith,
-      onto
-          l.said
-          (then (byte_text (get_or bytes l.at 0)))
-          (spaced byte_text (drop (l.at + 1) (take few bytes)))
-          (search rules)
-          ∙ sym (ap (appended l.said) next)
-          ∙ l.invariant.1,
-    )
+    let lead = c.args.lead.now in
+    let said : ℕ → List ℕ = λ b. lead ++ pair_of b in
+    let digits = pair_of (get_or bytes l.b-index 0) in
+    let begun = c.text-in-loop-b.ensures ∙ onto l.line (codes " ") lead c.text.ensures in
+    let put = c.text-line.ensures ∙ ap (appended c.text-in-loop-b.result) c.pair.ensures ∙ onto l.line (then lead) digits begun in
+    onto l.line (then (lead ++ digits)) (spaced said (drop (l.b-index + 1) bytes)) put
+    ∙ sym (ap (appended l.line) (spaced_next said bytes l.b-index c.loop-b-test.true))
+    ∙ l.invariant
 
--- where none is left to say, all are said
-all_said :
-    (said line : Line) (bytes : List ℕ) (few at : ℕ) → min few (length bytes) ≤ at →
-    appended said (spaced byte_text (drop at (take few bytes))) ≡ appended line (spaced byte_text (take few bytes)) →
-    said ≡ appended line (spaced byte_text (take few bytes))
+pub returns : goal.returns
 unfolding appended
-all_said said line bytes few at h e = sym (ap (appended said) (bytes_none bytes few at h)) ∙ e
-
-pub returns-else-at-bytes : goal.returns-else-at-bytes
-returns-else-at-bytes c =
-    all_said c.loop-at.said c.args.line c.args.bytes.now c.args.few c.loop-at.at (omega arith) c.loop-at.invariant.1
-
-pub returns-after-loop-at : goal.returns-after-loop-at
-returns-after-loop-at c =
-    all_said c.loop-at.said c.args.line c.args.bytes.now c.args.few c.loop-at.at (omega arith) c.loop-at.invariant.1
+returns c = rw (drop_of_length-le _ c.loop-b-test.false) at c.loop-b.invariant

@@ -1,14 +1,10 @@
--- Saying what is left of the few bytes behind what is said gives what saying all of them gives.
-use Rattle.std.proofs.Common.{◌≡◌, ◌-◌, ◌≤◌, length, take, drop}
+-- Saying what is left of the bytes behind what is said gives what saying all of them gives.
+use Rattle.std.proofs.Common.{◌≡◌, ◌++◌, drop}
+use Rattle.digits.specs.Digit.{pair_of}
 use Rattle.text.specs.Lines.{appended}
-use Rattle.front.specs.Line.{byte_text, spaced}
+use Rattle.front.specs.Line.{spaced}
 use Rattle.row.proofs.line.then_bytes.Given as goal
 
-abbrev pub invariant-loop-at : goal.invariant-loop-at
-invariant-loop-at l =
-    (l.at ≤ length l.bytes) ×
-    (appended l.said (spaced byte_text (drop l.at (take l.few l.bytes))) ≡
-    appended l.initial.said (spaced byte_text (take l.few l.bytes)))
-
-abbrev pub decreases-loop-at : goal.decreases-loop-at
-decreases-loop-at l = length l.bytes - l.at
+abbrev pub invariant-loop-b : goal.invariant-loop-b
+invariant-loop-b l =
+    appended l.line (spaced (λ b. l.lead ++ pair_of b) (drop l.b-index l.bytes)) ≡ appended l.fn.line (spaced (λ b. l.lead ++ pair_of b) l.bytes)
