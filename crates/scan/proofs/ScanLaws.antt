@@ -1,62 +1,66 @@
 -- What each turn of a scan does, from either end.
-use mathlib.Core.Path.{◌≡◌, refl, sym, ◌∙◌}
+use mathlib.Core.Path.{◌≡◌, refl, sym, ◌∙◌, ap}
 use mathlib.Core.Bool.{Bool, true, false, cond}
 use mathlib.Core.List.{List, [], ◌∷◌}
 use mathlib.Core.Logic.{◌⊎◌, inl, inr, ⊎_elim}
 use Prim.Native.Nat.{ℕ, zero, suc, ◌+◌, ◌-◌, ◌≤◌, ◌<◌}
-use native.Mathlib.Nat.{not-suc-le-zero}
-use native.Mathlib.Numerals.{add-one}
+use native.Mathlib.Numerals.{add-one, one-add}
 use native.Mathlib.Omega.{arith}
 use borrow.Author.Tests.{le-leb, lt-leb, le-ltb, lt-ltb}
+use Rattle.std.specs.List.{position_or_len}
+use Rattle.std.proofs.lemmas.List.Recursion.{is_position_or_len}
+use Rattle.std.specs.Prelude.{Option, Some, None, MatchOption}
+use Rattle.std.specs.Option.{unwrap_or}
+use Rattle.std.proofs.lemmas.List.Sums.{position_or_len_is}
 use lib.Dec.{ltb, leb}
-use lib.ListN.{length, get_or, take, drop, drop_of_length-le}
-use lib.Seq.{drop-cons}
+use lib.ListN.{length, get_or}
 use Rattle.scan.specs.declared.class.Class.{Class}
 use Rattle.scan.specs.Class.{passes}
 use Rattle.scan.specs.Scan.{first, behind, last, count}
 
--- from the front, at place i
-pub first_end : (c : Class) (text : List ℕ) (i : ℕ) → length text ≤ i → i + first c (drop i text) ≡ i
+-- none of the class before the byte at i; or none at all
+pub first_found :
+    (c : Class) (text : List ℕ) (found : Option ℕ) →
+    MatchOption
+    found
+    ((k : ℕ) → k < length text → passes c (get_or text k 0) ≡ false)
+    (λ i. ((i < length text) × (passes c (get_or text i 0) ≡ true)) × ((k : ℕ) → k < i → passes c (get_or text k 0) ≡ false)) →
+    unwrap_or found (length text) ≡ first c text
 unfolding first
-first_end c text i h = rw (drop_of_length-le text h) (omega arith)
+first_found c text found at =
+    by found at
+    ∙ sym (is_position_or_len (first c) (passes c) refl (λ b bs. ap (λ n. cond (passes c b) 0 n) (sym (one-add (first c bs)))) text)
+  where
+    by :
+        (found : Option ℕ) →
+        MatchOption
+        found
+        ((k : ℕ) → k < length text → passes c (get_or text k 0) ≡ false)
+        (λ i. ((i < length text) × (passes c (get_or text i 0) ≡ true)) × ((k : ℕ) → k < i → passes c (get_or text k 0) ≡ false)) →
+        unwrap_or found (length text) ≡ position_or_len (passes c) text
+    by None none = sym (position_or_len_is (passes c) text (length text) 0 (omega arith) none (λ h. absurd (omega arith)))
+    by (Some i) at = sym (position_or_len_is (passes c) text i 0 (omega (arith, at.0.0)) at.1 (λ h. at.0.1))
 
-pub first_here :
-    (c : Class) (text : List ℕ) (i : ℕ) → i < length text → passes c (get_or text i 0) ≡ true → i + first c (drop i text) ≡ i
-unfolding first
-first_here c text i h e = rw (drop-cons text i 0 h, e) (omega arith)
-
-pub first_on :
-    (c : Class) (text : List ℕ) (i : ℕ) → i < length text → passes c (get_or text i 0) ≡ false →
-    i + first c (drop i text) ≡ i + 1 + first c (drop (i + 1) text)
-unfolding first
-first_on c text i h e = rw (add-one i, drop-cons text i 0 h, e) (omega arith)
-
--- from the back, with n bytes left
-back_here :
-    (c : Class) (text : List ℕ) (n : ℕ) → n < length text → passes c (get_or text n 0) ≡ true → last c (take (suc n) text) ≡ suc n
+-- up to the byte at i, and none of the class behind it; or none at all
+pub last_none :
+    (c : Class) (text : List ℕ) → ((k : ℕ) → k < length text → passes c (get_or text k 0) ≡ false) → last c text ≡ 0
 unfolding last
-back_here c [] n h e = absurd (not-suc-le-zero h)
-back_here c (b ∷ bs) zero h e = rw e
-back_here c (b ∷ bs) (suc n) h e = rw (back_here c bs n (omega arith) e)
-
-back_on :
-    (c : Class) (text : List ℕ) (n : ℕ) → n < length text → passes c (get_or text n 0) ≡ false →
-    last c (take (suc n) text) ≡ last c (take n text)
-unfolding last
-back_on c [] n h e = absurd (not-suc-le-zero h)
-back_on c (b ∷ bs) zero h e = rw e
-back_on c (b ∷ bs) (suc n) h e = rw (back_on c bs n (omega arith) e)
+last_none c [] none = refl
+last_none c (b ∷ bs) none =
+    let here : passes c b ≡ false = none 0 (omega arith) in
+    let rest : last c bs ≡ 0 = last_none c bs (λ k h. none (suc k) (omega arith)) in
+    rw (rest, here)
 
 pub last_here :
-    (c : Class) (text : List ℕ) (n : ℕ) → 0 < n → n ≤ length text → passes c (get_or text (n - 1) 0) ≡ true → last c (take n text) ≡ n
-last_here c text zero some h e = absurd (not-suc-le-zero some)
-last_here c text (suc n) some h e = let less : suc n - 1 ≡ n = omega arith in back_here c text n h (rw less at e)
-
-pub last_on :
-    (c : Class) (text : List ℕ) (n : ℕ) → 0 < n → n ≤ length text → passes c (get_or text (n - 1) 0) ≡ false →
-    last c (take n text) ≡ last c (take (n - 1) text)
-last_on c text zero some h e = absurd (not-suc-le-zero some)
-last_on c text (suc n) some h e = let less : suc n - 1 ≡ n = omega arith in rw less (back_on c text n h (rw less at e))
+    (c : Class) (text : List ℕ) (i : ℕ) → i < length text → passes c (get_or text i 0) ≡ true →
+    ((k : ℕ) → i < k → k < length text → passes c (get_or text k 0) ≡ false) → last c text ≡ i + 1
+unfolding last
+last_here c [] i h e none = absurd (omega arith)
+last_here c (b ∷ bs) zero h e none =
+    let rest : last c bs ≡ 0 = last_none c bs (λ k h. none (suc k) (omega arith) (omega arith)) in rw (rest, e)
+last_here c (b ∷ bs) (suc i) h e none =
+    let rest : last c bs ≡ suc i = last_here c bs i (omega arith) e (λ k a b. none (suc k) (omega arith) (omega arith)) ∙ add-one i in
+    rw rest (omega arith)
 
 -- both places lie in the text or at its end
 pub first_within : (c : Class) (text : List ℕ) → first c text ≤ length text
@@ -118,3 +122,5 @@ two_apart c text = by (first c text) (last c text) (count c text) (spread c text
         (λ e. lt-leb 2 k (omega (arith, e.0)) ∙ sym (le-ltb f (n - 1) (omega (arith, e.1))))
         (λ e. le-leb 2 k e.0 ∙ sym (lt-ltb f (n - 1) (omega (arith, e.1)))))
         s
+
+pub ruleset within_laws = (first_within, last_within, last_none)

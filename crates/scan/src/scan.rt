@@ -6,33 +6,26 @@ ghost use Rattle.scan.specs.Scan.{first, last, some};
 use crate::class::Class;
 
 // How many bytes stand before the first of the class: all, where there is none.
+#[tactic(auto, using(crate::proofs::ScanLaws::within_laws))]
 pub fn first(class: Class, text: &[u8]) -> usize
     ensures value { result ≡ first class text.now }
     ensures upper_bound { result ≤ length text.now }
 {
-    let mut i: usize = 0;
-    while i < text.len() {
-        if class.passes(text[i]) {
-            break;
-        }
-        i += 1;
-    }
-    i
+    text.iter()
+        .position(|byte| class.passes(*byte))
+        .unwrap_or(text.len())
 }
 
 // How many bytes there are up to the last of the class, with it: 0, where there is none.
+#[tactic(auto, using(crate::proofs::ScanLaws::within_laws))]
 pub fn last(class: Class, text: &[u8]) -> usize
     ensures value { result ≡ last class text.now }
     ensures upper_bound { result ≤ length text.now }
 {
-    let mut n = text.len();
-    while n > 0 {
-        if class.passes(text[n - 1]) {
-            break;
-        }
-        n -= 1;
+    match text.iter().rposition(|byte| class.passes(*byte)) {
+        Some(at) => at + 1,
+        None => 0,
     }
-    n
 }
 
 // Whether some byte is of the class.
