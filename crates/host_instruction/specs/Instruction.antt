@@ -1,9 +1,7 @@
 -- An instruction as numbers. A form's number is its place in the table of operands: none 0; register, value 1; register, address 2; register 3;
 -- two registers 4; address 5.
-use Rattle.std.specs.Prelude.{ℕ, cond, List, [], ◌∷◌, eqb}
+use Rattle.std.specs.Prelude.{ℕ, Option, None, Some, cond, List, [], ◌∷◌, eqb}
 use Rattle.byte.specs.Flags.{bit}
-use Rattle.op.specs.declared.operation.Lookup.{Lookup}
-use Rattle.op.specs.declared.operation.Lookup.TheVariants.{Found, Unknown}
 use Rattle.op.specs.declared.operation.Op.{Op}
 use Rattle.op.specs.Operations.{decoded, form_of, length_of}
 use Rattle.instruction.specs.Decode.{Decoding, decoded_of}
@@ -37,9 +35,9 @@ encode_with o form first second =
     cond (eqb form (form_number (form_of o))) (encoded_of o (given (form_of o) first second)) (no_bytes (12 ∷ []))
 
 -- an opcode that is none: 3 with the opcode, and no bytes (decisions M8, M22)
-abbrev pub encode_by : Lookup → (opcode form first second : ℕ) → Encoding
-encode_by (Found o) opcode form first second = encode_with o form first second
-encode_by Unknown opcode form first second = no_bytes (3 ∷ opcode ∷ [])
+abbrev pub encode_by : Option Op → (opcode form first second : ℕ) → Encoding
+encode_by (Some o) opcode form first second = encode_with o form first second
+encode_by None opcode form first second = no_bytes (3 ∷ opcode ∷ [])
 
 -- after encode: the number with its values, three bytes, and how many of them the instruction takes
 pub record Coded : Type 0 where

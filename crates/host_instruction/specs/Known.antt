@@ -1,12 +1,11 @@
 -- How many opcodes are known.
-use Rattle.std.specs.Prelude.{ℕ, zero, suc, ◌+◌}
-use Rattle.op.specs.declared.operation.Lookup.{Lookup}
-use Rattle.op.specs.declared.operation.Lookup.TheVariants.{Found, Unknown}
+use Rattle.std.specs.Prelude.{ℕ, zero, suc, ◌+◌, Option, None, Some}
+use Rattle.op.specs.declared.operation.Op.{Op}
 use Rattle.op.specs.Operations.{decoded}
 
-abbrev pub known : Lookup → ℕ
-known (Found o) = 1
-known Unknown = 0
+abbrev pub known : Option Op → ℕ
+known (Some o) = 1
+known None = 0
 
 -- of the bytes below one
 abbrev pub known_below : ℕ → ℕ

@@ -5,8 +5,8 @@ ghost use Rattle.instruction.specs.Numbers.{encode_number, encoding};
 ghost use Rattle.host_instruction.specs.Instruction.{coded, encode_from, encode_with};
 
 use crate::operands::given;
-use instruction::encode::{EncodeAnswer, Encoded, form_number, refused};
-use op::operation::{Lookup, Op};
+use instruction::encode::{EncodeRefusal, Encoded, form_number};
+use op::operation::Op;
 
 pub fn encode(
     opcode: u8,
@@ -19,42 +19,40 @@ pub fn encode(
 ) -> usize
     ensures { coded result values.new bytes.new length.new ≡ encode_from opcode form first second }
 {
-    match Op::decode(opcode) {
-        Lookup::Found(op) => {
-            let encoded = encode_with(op, form, first, second);
-            let answer = encoded.answer;
+    *bytes = [0; 3];
+    *length = 0;
+    *values = [0; 2];
+    let Some(op) = Op::decode(opcode) else {
+        *values = [usize::from(opcode), 0];
+        return 3;
+    };
+    match encode_with(op, form, first, second) {
+        Ok(encoded) => {
             let three = encoded.bytes;
             *bytes = three;
-            *length = encoded.length as usize;
-            *values = [0, 0];
-            encode_number(answer)
+            *length = usize::from(encoded.length);
+            0
         },
-        Lookup::Unknown => {
-            *bytes = [0, 0, 0];
-            *length = 0;
-            *values = [opcode as usize, 0];
-            3
-        },
+        Err(refusal) => encode_number(refusal),
     }
 }
 
 // Operands of another form are refused, a number that is no form's too.
-fn encode_with(op: Op, form: u8, first: u8, second: u8) -> Encoded
+fn encode_with(op: Op, form: u8, first: u8, second: u8) -> Result<Encoded, EncodeRefusal>
     ensures { encoding result ≡ encode_with op form first second }
 {
     if form != form_number(op.form()) {
-        return refused(EncodeAnswer::OtherForm);
+        return Err(EncodeRefusal::OtherForm);
     }
     instruction::encode::encode(op, given(op.form(), first, second))
 }
 
 // It has no values.
-fn encode_number(answer: EncodeAnswer) -> usize
-    ensures { result ≡ number_of (encode_number answer) }
+fn encode_number(refusal: EncodeRefusal) -> usize
+    ensures { result ≡ number_of (encode_number refusal) }
 {
-    match answer {
-        EncodeAnswer::Done => 0,
-        EncodeAnswer::OtherForm => 12,
-        EncodeAnswer::NoSuchRegister => 13,
+    match refusal {
+        EncodeRefusal::OtherForm => 12,
+        EncodeRefusal::NoSuchRegister => 13,
     }
 }

@@ -11,11 +11,11 @@ pub fn first(operands: Operands) -> u8
 {
     match operands {
         Operands::None => 0,
-        Operands::Reg(r) => r,
-        Operands::RegImm(r, _) => r,
-        Operands::RegReg(d, _) => d,
-        Operands::RegAddr(r, _) => r,
-        Operands::Addr(a) => a,
+        Operands::Reg(first)
+        | Operands::RegImm(first, _)
+        | Operands::RegReg(first, _)
+        | Operands::RegAddr(first, _)
+        | Operands::Addr(first) => first,
     }
 }
 
@@ -23,12 +23,9 @@ pub fn second(operands: Operands) -> u8
     ensures { result ≡ second_of operands }
 {
     match operands {
-        Operands::None => 0,
-        Operands::Reg(_) => 0,
-        Operands::RegImm(_, v) => v,
-        Operands::RegReg(_, s) => s,
-        Operands::RegAddr(_, a) => a,
-        Operands::Addr(_) => 0,
+        Operands::None | Operands::Reg(_) | Operands::Addr(_) => 0,
+        Operands::RegImm(_, second) | Operands::RegReg(_, second) | Operands::RegAddr(_, second) =>
+            second,
     }
 }
 

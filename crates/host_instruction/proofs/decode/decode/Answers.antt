@@ -1,5 +1,5 @@
 -- The parts are what the calls give, of the instruction that decode tells, and what it tells of the spelling.
-use Rattle.std.proofs.Common.{◌≡◌, Bool}
+use Rattle.std.proofs.Common.{◌≡◌, Bool, rules}
 use Rattle.instruction.specs.Plain.{spelled, spelling_of}
 use Rattle.host_instruction.proofs.decode.decode.Goals as goal
 
@@ -7,16 +7,12 @@ use Rattle.host_instruction.proofs.decode.decode.Goals as goal
 told_once : (plain told : Bool) → spelled told ≡ spelled plain → plain ≡ told
 told_once plain told e = cc
 
-pub returns-in-Instruction : goal.returns-in-Instruction
+pub returns-in-Ok : goal.returns-in-Ok
 unfolding spelling_of
-returns-in-Instruction c =
+returns-in-Ok c =
     rw (
       ← c.decode.ensures.decoded,
-      c.in-Instruction.is,
-      told_once _ _ (rw (← c.decode.ensures.decoded, c.in-Instruction.is) at c.decode.ensures.spelling),
-      c.second-other.ensures,
-      c.first-one.ensures,
-      c.instruction_len-length.ensures,
-      c.form_number-form.ensures,
-      c.form.ensures,
+      c.in-Ok.is,
+      told_once _ _ (rw (← c.decode.ensures.decoded, c.in-Ok.is) at c.decode.ensures.spelling),
     )
+    (search rules)

@@ -10,7 +10,7 @@ pub returns-then-form-form_number : goal.returns-then-form-form_number
 unfolding encode_with
 returns-then-form-form_number c =
     let number = sym (c.form_number.ensures ∙ ap form_number c.form.ensures) in
-    rw (number, ne_eqb _ _ c.if-form-form_number.true) c.refused.ensures
+    rw (number, ne_eqb _ _ c.if-form-form_number.true)
 
 pub returns : goal.returns
 unfolding encode_with
