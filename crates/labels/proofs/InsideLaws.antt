@@ -1,17 +1,20 @@
 -- Every name of the table lies in the source.
-use Rattle.std.proofs.Common.{◌≡◌, ℕ, zero, suc, ◌+◌, ◌<◌, ◌≤◌, Bool, true, false, cond, ◌||◌, eqb, ltb, List, [], ◌∷◌, length, get_or, take, drop, set, refl, ◌∙◌, not-suc-le-zero, arith, length-drop, length-set, get_or-set_other, get_or-set_same, ltb-true, eqb-true}
+use Rattle.std.proofs.Common.{◌≡◌, ℕ, zero, suc, ◌+◌, ◌<◌, ◌≤◌, Bool, true, false, cond, ◌||◌, eqb, ltb, List, [], ◌∷◌, Option, Some, None, Result, Ok, Err, length, get_or, take, drop, set, refl, ◌∙◌, not-suc-le-zero, arith, length-drop, length-set, get_or-set_other, get_or-set_same, ltb-true, eqb-true}
 use borrow.Author.Tests.{eqb-false}
 use Rattle.scan.specs.declared.class.Class.TheVariants.{Is, IsNot, Solid, High}
 use Rattle.scan.specs.Scan.{first, last, some}
 use Rattle.scan.proofs.ScanLaws.{first_within, last_within}
 use Rattle.source.specs.declared.meaning.Meaning.{Meaning}
-use Rattle.source.specs.declared.meaning.Meaning.TheVariants.{Nothing, Bytes, Label, ShortString, NoOperation}
+use Rattle.source.specs.declared.meaning.Meaning.TheVariants.{Nothing, Bytes, Label}
+use Rattle.source.specs.declared.meaning.Unread.{Unread}
+use Rattle.source.specs.declared.meaning.Unread.TheVariants.{ShortString, NoOperation}
 use Rattle.source.specs.Meaning.{meaning_of}
 use Rattle.source.specs.Line.{lines_of, on_first, line_of, trimmed, cut}
 use Rattle.table.specs.declared.labels.Labels.{Labels}
 use Rattle.table.specs.Table.{no_labels, readdressed, with_label, found}
 use Rattle.labels.specs.Pass.{Progress, goes, refused, recorded, labelled, after, turn, pass, told, ended, passed, mapping_of}
 use Rattle.labels.specs.Inside.{Inside}
+use Rattle.labels.proofs.PassLaws.{bytes_of}
 
 -- a table of 64 entries, whose names lie in a source of n bytes
 record Kept (n : ℕ) (t : Labels) : Type 0 where
@@ -57,20 +60,16 @@ Keeps n (goes address t) = Kept n t
 Keeps n (refused answer) = Unit {0}
 
 kept_recorded :
-    (n : ℕ) (t : Labels) (i place size number address : ℕ) → place + size ≤ n → Kept n t →
-    Keeps n (recorded t i place size number address)
-kept_recorded n t i place size number address in-it k = by (ltb i t.count) (ltb t.count 64) refl
+    (n : ℕ) (t : Labels) (old : Option ℕ) (place size number address : ℕ) → place + size ≤ n → Kept n t →
+    Keeps n (recorded t old place size number address)
+kept_recorded n t (Some i) place size number address in-it k = kept_readdressed n t i address k
+kept_recorded n t None place size number address in-it k = by (ltb t.count 64) refl
   where
     by :
-        (old room : Bool) → ltb t.count 64 ≡ room →
-        Keeps
-        n
-        (cond old
-        (goes address (readdressed t i address))
-        (cond room (goes address (with_label t place size address)) (refused (18 ∷ number ∷ []))))
-    by true room e = kept_readdressed n t i address k
-    by false true e = kept_with n t place size address (ltb-true t.count 64 e) in-it k
-    by false false e = tt
+        (room : Bool) → ltb t.count 64 ≡ room →
+        Keeps n (cond room (goes address (with_label t place size address)) (refused (18 ∷ number ∷ [])))
+    by true e = kept_with n t place size address (ltb-true t.count 64 e) in-it k
+    by false e = tt
 
 shorter : (k : ℕ) (l : List ℕ) → length (take k l) ≤ length l
 shorter zero l = omega arith
@@ -94,24 +93,19 @@ line_within raw =
     )
 
 kept_after :
-    (m : Meaning) (source : List ℕ) (place number address : ℕ) (t : Labels) (raw : List ℕ) →
+    (m : Result Meaning Unread) (source : List ℕ) (place number address : ℕ) (t : Labels) (raw : List ℕ) →
     place + length raw ≤ length source → Kept (length source) t →
     Keeps (length source) (after m source place number address t raw)
 unfolding labelled
-kept_after Nothing source place number address t raw h k = k
-kept_after (Bytes n) source place number address t raw h k = k
-kept_after Label source place number address t raw h k =
+kept_after (Ok Nothing) source place number address t raw h k = k
+kept_after (Ok (Bytes n)) source place number address t raw h k = k
+kept_after (Ok Label) source place number address t raw h k =
     let at = place + first Solid raw in
     let size = last (IsNot 0x3a) (line_of raw) in
     let in-it : at + size ≤ length source = omega (arith, line_within raw, last_within (IsNot 0x3a) (line_of raw)) in
     kept_recorded (length source) t (found source t at size) at size number address in-it k
-kept_after ShortString source place number address t raw h k = tt
-kept_after NoOperation source place number address t raw h k = tt
-
--- the bytes of lines, each with its LF
-abbrev bytes_of : List (List ℕ) → ℕ
-bytes_of [] = 0
-bytes_of (raw ∷ lines) = length raw + 1 + bytes_of lines
+kept_after (Err ShortString) source place number address t raw h k = tt
+kept_after (Err NoOperation) source place number address t raw h k = tt
 
 -- the last line may do without
 lines_within : (source : List ℕ) → bytes_of (lines_of source) ≤ length source + 1

@@ -1,44 +1,28 @@
 -- Equal numbers and values: equal answers. So two results that the promise of map_labels allows are one.
-use Rattle.std.proofs.Common.{◌≡◌, refl, ap}
-use Rattle.labels.specs.declared.pass.MapAnswer.{MapAnswer}
-use Rattle.labels.specs.declared.pass.MapAnswer.TheVariants.{Done, Refused}
-use Rattle.labels.specs.declared.pass.Mapped.{Mapped}
+use Rattle.std.proofs.Common.{◌≡◌, ℕ, cond, eqb, get_or, Result, Ok, Err, refl, sym, ap, ◌∙◌}
+use Rattle.table.specs.declared.labels.Labels.{Labels}
 use Rattle.labels.specs.declared.pass.Refusal.{Refusal}
 use Rattle.labels.specs.declared.pass.Refusal.TheVariants.{NoSource, ShortString, NoOperation, TooManyLabels}
-use Rattle.labels.specs.Numbers.{refusal_number, map_number, mapping}
+use Rattle.labels.specs.Pass.{Mapping}
+use Rattle.labels.specs.Numbers.{mapping}
 
-refusal_injective : (r s : Refusal) → refusal_number r ≡ refusal_number s → r ≡ s
-refusal_injective NoSource NoSource e = refl
-refusal_injective NoSource (ShortString b) e = cc
-refusal_injective NoSource (NoOperation b) e = cc
-refusal_injective NoSource (TooManyLabels b) e = cc
-refusal_injective (ShortString a) NoSource e = cc
-refusal_injective (ShortString a) (ShortString b) e = cc
-refusal_injective (ShortString a) (NoOperation b) e = cc
-refusal_injective (ShortString a) (TooManyLabels b) e = cc
-refusal_injective (NoOperation a) NoSource e = cc
-refusal_injective (NoOperation a) (ShortString b) e = cc
-refusal_injective (NoOperation a) (NoOperation b) e = cc
-refusal_injective (NoOperation a) (TooManyLabels b) e = cc
-refusal_injective (TooManyLabels a) NoSource e = cc
-refusal_injective (TooManyLabels a) (ShortString b) e = cc
-refusal_injective (TooManyLabels a) (NoOperation b) e = cc
-refusal_injective (TooManyLabels a) (TooManyLabels b) e = cc
+-- the refusal of a number and its line
+abbrev refusal_from : ℕ → ℕ → Refusal
+refusal_from number line =
+    cond (eqb number 15) NoSource
+    (cond (eqb number 16) (ShortString line) (cond (eqb number 17) (NoOperation line) (TooManyLabels line)))
 
--- no refusal has number 0
-number_injective : (r s : MapAnswer) → map_number r ≡ map_number s → r ≡ s
-number_injective Done Done e = refl
-number_injective Done (Refused NoSource) e = cc
-number_injective Done (Refused (ShortString b)) e = cc
-number_injective Done (Refused (NoOperation b)) e = cc
-number_injective Done (Refused (TooManyLabels b)) e = cc
-number_injective (Refused NoSource) Done e = cc
-number_injective (Refused (ShortString a)) Done e = cc
-number_injective (Refused (NoOperation a)) Done e = cc
-number_injective (Refused (TooManyLabels a)) Done e = cc
-number_injective (Refused r) (Refused s) e = ap Refused (refusal_injective r s e)
+-- the result that a mapping is of
+abbrev mapped_from : Mapping → Result Labels Refusal
+mapped_from m =
+    cond (eqb (get_or m.answer 0 0) 0) (Ok m.labels) (Err (refusal_from (get_or m.answer 0 0) (get_or m.answer 1 0)))
 
-pub mapping_injective : (r s : Mapped) → mapping r ≡ mapping s → r ≡ s
-mapping_injective r s e =
-    let answer : r.answer ≡ s.answer = number_injective r.answer s.answer (ap (λ m. m.answer) e) in
-    λ i. record { answer = answer i; labels = (e i).labels }
+read_back : (r : Result Labels Refusal) → mapped_from (mapping r) ≡ r
+read_back (Ok labels) = refl
+read_back (Err NoSource) = refl
+read_back (Err (ShortString line)) = refl
+read_back (Err (NoOperation line)) = refl
+read_back (Err (TooManyLabels line)) = refl
+
+pub mapping_injective : (r s : Result Labels Refusal) → mapping r ≡ mapping s → r ≡ s
+mapping_injective r s e = sym (read_back r) ∙ (ap mapped_from e ∙ read_back s)

@@ -1,9 +1,11 @@
 -- "The address pass": line by line, how far each moves the address, and which labels stand where.
-use Rattle.std.specs.Prelude.{ℕ, ◌+◌, ◌%◌, cond, ◌||◌, List, [], ◌∷◌, length, nat_lt}
+use Rattle.std.specs.Prelude.{ℕ, ◌+◌, ◌%◌, cond, ◌||◌, List, [], ◌∷◌, Option, Some, None, Result, Ok, Err, length, nat_lt}
 use Rattle.scan.specs.declared.class.Class.TheVariants.{IsNot, Solid, High}
 use Rattle.scan.specs.Scan.{first, last, some}
 use Rattle.source.specs.declared.meaning.Meaning.{Meaning}
-use Rattle.source.specs.declared.meaning.Meaning.TheVariants.{Nothing, Bytes, Label, ShortString, NoOperation}
+use Rattle.source.specs.declared.meaning.Meaning.TheVariants.{Nothing, Bytes, Label}
+use Rattle.source.specs.declared.meaning.Unread.{Unread}
+use Rattle.source.specs.declared.meaning.Unread.TheVariants.{ShortString, NoOperation}
 use Rattle.source.specs.Line.{line_of, lines_of}
 use Rattle.source.specs.Meaning.{meaning_of}
 use Rattle.table.specs.declared.labels.Labels.{Labels}
@@ -14,14 +16,11 @@ pub data Progress : Type 0 where
   goes : ℕ → Labels → Progress
   refused : List ℕ → Progress
 
--- "record the address", for the i-th name; "a 65th label name" is 18
-abbrev pub recorded : (t : Labels) (i place size number address : ℕ) → Progress
-recorded t i place size number address =
-    cond (nat_lt i t.count)
-    (goes address (readdressed t i address))
-    (cond (nat_lt t.count 64)
-    (goes address (with_label t place size address))
-    (refused (18 ∷ number ∷ [])))
+-- "record the address", for the i-th name or a new one; "a 65th label name" is 18
+abbrev pub recorded : (t : Labels) → Option ℕ → (place size number address : ℕ) → Progress
+recorded t (Some i) place size number address = goes address (readdressed t i address)
+recorded t None place size number address =
+    cond (nat_lt t.count 64) (goes address (with_label t place size address)) (refused (18 ∷ number ∷ []))
 
 -- a label whose name stands at a place
 unfoldable pub labelled : (source : List ℕ) (t : Labels) (place size number address : ℕ) → Progress
@@ -29,15 +28,16 @@ labelled source t place size number address =
     recorded t (found source t place size) place size number address
 
 -- a line by what it means, from its place in the source, its number, and the address and the labels before it
-abbrev pub after : Meaning → (source : List ℕ) (place number address : ℕ) (t : Labels) (raw : List ℕ) → Progress
-after Nothing source place number address t raw = goes address t
+abbrev pub after :
+    Result Meaning Unread → (source : List ℕ) (place number address : ℕ) (t : Labels) (raw : List ℕ) → Progress
+after (Ok Nothing) source place number address t raw = goes address t
 -- "Addresses wrap modulo 256."
-after (Bytes n) source place number address t raw = goes ((address + n) % 256) t
+after (Ok (Bytes n)) source place number address t raw = goes ((address + n) % 256) t
 -- the name begins at the line's first byte that is no blank; "trailing colons dropped": `:` is 0x3A
-after Label source place number address t raw =
+after (Ok Label) source place number address t raw =
     labelled source t (place + first Solid raw) (last (IsNot 0x3a) (line_of raw)) number address
-after ShortString source place number address t raw = refused (16 ∷ number ∷ [])
-after NoOperation source place number address t raw = refused (17 ∷ number ∷ [])
+after (Err ShortString) source place number address t raw = refused (16 ∷ number ∷ [])
+after (Err NoOperation) source place number address t raw = refused (17 ∷ number ∷ [])
 
 unfoldable pub turn : (source : List ℕ) (place number address : ℕ) (t : Labels) (raw : List ℕ) → Progress
 turn source place number address t raw = after (meaning_of (line_of raw)) source place number address t raw

@@ -1,7 +1,11 @@
 // The address pass: the labels of a source and their addresses.
 #![tactic(auto)]
 
-// One line of the source, and the pass over all.
+// The pass over all lines of the source.
 pub mod pass;
+// What goes from line to line.
+mod stand;
+// What one line does.
+mod turn;
 // A refused source in words.
 pub mod verdict;

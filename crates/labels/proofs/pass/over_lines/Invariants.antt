@@ -1,15 +1,17 @@
 -- Before each line, the pass over those from there on is the pass over all.
-use Rattle.std.proofs.Common.{◌≡◌, ◌+◌, ◌-◌, ◌≤◌, length, drop}
-use Rattle.source.specs.Line.{lines_of}
+use Rattle.std.proofs.Common.{◌≡◌, ◌+◌, ◌≤◌, length, drop}
 use Rattle.labels.specs.Pass.{goes, pass, passed}
+use Rattle.labels.proofs.PassLaws.{parts_of, bytes_of}
 use Rattle.labels.proofs.pass.over_lines.Given as goal
 
-abbrev pub invariant-loop-at : goal.invariant-loop-at
-invariant-loop-at l =
-    (l.at ≤ length l.source + 1)
-    × (l.number ≤ l.at + 1)
-    × (l.labels.count ≤ 64)
-    × (pass l.source l.at l.number (goes l.address l.labels) (lines_of (drop l.at l.source)) ≡ passed l.source)
-
-abbrev pub decreases-loop-at : goal.decreases-loop-at
-decreases-loop-at l = length l.source - l.at
+abbrev pub invariant-loop-i : goal.invariant-loop-i
+invariant-loop-i l =
+    record {
+      can_next : (goal.iterator-loop-i).can_next l.i-iterator;
+      is_finite : (goal.iterator-loop-i).is_finite l.i-iterator;
+      counted : length l.yielded ≤ l.place;
+      left : l.place + bytes_of (drop (length l.yielded) (parts_of l.source)) ≡ length l.source + 1;
+      passes :
+          pass l.source l.place (length l.yielded + 1) (goes l.stand.address l.stand.labels) (drop (length l.yielded) (parts_of l.source)) ≡
+          passed l.source;
+    }

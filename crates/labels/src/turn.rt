@@ -1,0 +1,77 @@
+// What one line does: it moves the address on, gives it a name, or is refused.
+ghost use Rattle.std.specs.Prelude.{◌≡◌, ◌+◌, ◌%◌, ◌≤◌};
+ghost use Rattle.table.specs.Table.{no_labels};
+ghost use Rattle.labels.specs.Numbers.{progress};
+ghost use Rattle.labels.specs.Pass.{labelled, turn};
+
+use crate::pass::Refusal;
+use crate::stand::{RawLine, Stand};
+use scan::class::Class;
+use scan::scan::last;
+use source::line::line;
+use source::meaning::{Meaning, Unread};
+use table::entry::{add, found, readdress};
+use table::labels::Labels;
+
+impl Stand {
+    pub fn start() -> Stand
+        ensures address_value { result.address ≡ 0 }
+        ensures labels_value { result.labels ≡ no_labels }
+    {
+        Stand {
+            address: 0,
+            labels: Labels::empty(),
+        }
+    }
+
+    #[tactic(auto, unfolding(crate::specs::Pass::turn))]
+    pub fn after(self, raw: &RawLine) -> Result<Stand, Refusal>
+        ensures { progress result
+            ≡ turn raw.now.source.now raw.now.place raw.now.number self.address self.labels raw.now.bytes.now }
+    {
+        let span = line(raw.bytes);
+        let text = &raw.bytes[span.from..span.to];
+        match Meaning::of(text) {
+            Ok(Meaning::Nothing) => Ok(self),
+            Ok(Meaning::Bytes(n)) => Ok(self.moved(n)),
+            Ok(Meaning::Label) => {
+                let size = last(Class::IsNot(b':'), text);
+                self.labelled(raw, raw.place + span.from, size)
+            },
+            Err(Unread::ShortString) => Err(Refusal::ShortString(raw.number)),
+            Err(Unread::NoOperation) => Err(Refusal::NoOperation(raw.number)),
+        }
+    }
+
+    // Addresses wrap modulo 256.
+    fn moved(self, bytes: usize) -> Stand
+        ensures address_value { result.address ≡ (self.address + bytes) % 256 }
+        ensures labels_value { result.labels ≡ self.labels }
+    {
+        Stand {
+            address: self.address.wrapping_add((bytes % 256) as u8),
+            labels: self.labels,
+        }
+    }
+
+    // The name that stands at a place in the source gets the address.
+    #[tactic(auto, unfolding(crate::specs::Pass::labelled))]
+    fn labelled(self, raw: &RawLine, place: usize, size: usize) -> Result<Stand, Refusal>
+        requires place_bound { place ≤ 16384 }
+        requires size_bound { size ≤ 16384 }
+        ensures { progress result
+            ≡ labelled raw.now.source.now self.labels place size raw.now.number self.address }
+    {
+        let place = place as u16;
+        let size = size as u16;
+        let labels = match found(self.labels, raw.source, place, size) {
+            Some(i) => readdress(self.labels, i, self.address),
+            None if self.labels.count < 64 => add(self.labels, place, size, self.address),
+            None => return Err(Refusal::TooManyLabels(raw.number)),
+        };
+        Ok(Stand {
+            address: self.address,
+            labels,
+        })
+    }
+}
