@@ -2,37 +2,31 @@
 // that the rule printed, standard error one line: the verdict, or why there is none.
 #![tactic(auto)]
 
-use job::read::{Found, read_input, read_rule};
-use program::say::{Streams, print, told};
+use job::read::{NoJob, read_input, read_rule};
+use program::say::Streams;
 use rule::rule::run_rule;
 use rule::verdict::too_long;
 use std::rt::Stdin;
 
 fn main(rt: HostRuntime) {
-    let to = Streams {
-        out: rt.stdout(),
-        err: rt.stderr(),
-    };
+    let to = Streams::new(&rt, "nanorun");
     let mut rule = [0u8; 65536];
-    let job = read_rule(&rt, to.err, b"nanorun", &mut rule);
-    let found = job.found;
-    match found {
-        Found::Rule => run(rt.stdin(), to, &rule[..job.length], job.limit),
-        Found::TooLong(length) => told(to.err, too_long(length, 0)),
-        Found::Nothing => {}
+    match read_rule(&rt, to, &mut rule) {
+        Ok(job) => run(rt.stdin(), to, &rule[..job.length], job.limit),
+        Err(NoJob::TooLong(length)) => to.tell(too_long(length, 0).as_bytes()),
+        Err(NoJob::Said) => {}
     }
 }
 
 // A limit can print no more bytes than its own number, for which there is room.
 fn run(from: Stdin, to: Streams, rule: &[u8], limit: u16) {
     let mut input = [0u8; 65536];
-    let got = read_input(from, to.err, b"nanorun", &mut input, limit);
-    if got.failed {
+    let Ok(count) = read_input(from, to, &mut input, limit) else {
         return;
-    }
+    };
     let mut output = [0u8; 65536];
-    let ending = run_rule(rule, limit, &input[..got.count], &mut output);
-    if print(to, b"nanorun", &output, ending.written) {
-        told(to.err, ending.verdict);
+    let ending = run_rule(rule, limit, &input[..count], &mut output);
+    if to.print(&output[..ending.written.min(output.len())]) {
+        to.tell(ending.verdict.as_bytes());
     }
 }

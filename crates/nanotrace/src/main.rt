@@ -2,73 +2,64 @@
 // Standard output gets a line after each completed step, and then the verdict. What the rule prints is not shown.
 #![tactic(auto)]
 
-use job::read::{Found, read_input, read_rule};
-use nanocore::answer::LoadAnswer;
+use job::read::{NoJob, read_input, read_rule};
+use nanocore::answer::{Outcome, TooLong};
 use nanocore::machine::Machine;
 use program::say::Streams;
 use rule::rule::load_rule;
 use rule::verdict::{too_long, verdict};
 use std::rt::Stdin;
 use text::line::Line;
-use trace::answer::Look;
 use trace::line::line;
 use trace::look::look;
 
 fn main(rt: HostRuntime) {
-    let to = Streams {
-        out: rt.stdout(),
-        err: rt.stderr(),
-    };
+    let to = Streams::new(&rt, "nanotrace");
     let mut rule = [0u8; 65536];
-    let job = read_rule(&rt, to.err, b"nanotrace", &mut rule);
-    let found = job.found;
-    match found {
-        Found::Rule => trace(rt.stdin(), to, &rule[..job.length], job.limit),
-        Found::TooLong(length) => {
+    match read_rule(&rt, to, &mut rule) {
+        Ok(job) => trace(rt.stdin(), to, &rule[..job.length], job.limit),
+        Err(NoJob::TooLong(length)) => {
             say(to, too_long(length, 0));
         }
-        Found::Nothing => {}
+        Err(NoJob::Said) => {}
     }
 }
 
 fn trace(from: Stdin, to: Streams, rule: &[u8], limit: u16) {
     let mut input = [0u8; 65536];
-    let got = read_input(from, to.err, b"nanotrace", &mut input, limit);
-    if got.failed {
+    let Ok(count) = read_input(from, to, &mut input, limit) else {
         return;
-    }
+    };
     let loaded = load_rule(rule, limit);
-    let answer = loaded.answer;
-    match answer {
-        LoadAnswer::TooLong { length, start } => {
+    match loaded.answer {
+        Ok(()) => follow(to, loaded.machine, &input[..count]),
+        Err(TooLong { length, start }) => {
             say(to, too_long(length, start));
         }
-        LoadAnswer::Loaded => follow(to, loaded.machine, &input[..got.count]),
     }
 }
 
 // It stops where a line could not be written, which is said once. There is room for all that a limit can print.
 fn follow(to: Streams, machine: Machine, input: &[u8]) {
     let mut output = [0u8; 65536];
-    let mut at = machine;
-    let mut place: usize = 0;
-    let mut written: usize = 0;
+    let mut at = Outcome {
+        answer: None,
+        machine,
+        place: 0,
+        written: 0,
+    };
     loop {
-        let looked = look(at, input, place, &mut output, written);
-        let after = looked.machine;
-        let seen = looked.look;
-        match seen {
-            Look::Ended(answer) => {
+        at = look(at.machine, input, at.place, &mut output, at.written);
+        let after = at.machine;
+        match at.answer {
+            Some(answer) => {
                 say(to, verdict(answer, after.count, after.pc));
                 return;
             }
-            Look::Completed => {
+            None => {
                 if !say(to, line(after)) {
                     return;
                 }
-                at = after;
-                place = looked.place;
-                written = looked.written;
             }
         }
     }
@@ -76,5 +67,5 @@ fn follow(to: Streams, machine: Machine, input: &[u8]) {
 
 // Whether the line was written; where it was not, it was said why.
 fn say(to: Streams, line: Line) -> bool {
-    program::say::line(to, b"nanotrace", line)
+    to.print(line.as_bytes())
 }

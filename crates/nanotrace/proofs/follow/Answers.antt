@@ -5,7 +5,7 @@ use Rattle.trace.proofs.LookLaws.{look_less}
 use Rattle.nanotrace.proofs.follow.Goals as goal
 
 -- the step was completed
-pub loop-answer-smaller : goal.loop-answer-smaller
-loop-answer-smaller c =
-    let l = c.loop-answer in
-    look_less c.args.input.now (situated l.at l.place l.output l.written) c.look-looked.ensures (ap look_number c.in-Completed.is)
+pub loop-at-smaller : goal.loop-at-smaller
+loop-at-smaller c =
+    let at = c.loop-at.at in
+    look_less c.args.input.now (situated at.machine at.place c.loop-at.output at.written) c.look-at.ensures (ap look_number c.in-None.is)
