@@ -1,5 +1,5 @@
 -- Laws of cases: a case that fits has room for its buffer; two answers that compare as the same are the same.
-use mathlib.Core.Path.{◌≡◌, refl, subst, ap, ◌∙◌}
+use mathlib.Core.Path.{◌≡◌, refl, ap, ◌∙◌}
 use mathlib.Core.Bool.{Bool, true, false, cond, ◌&&◌, and-eq-true_iff}
 use mathlib.Core.List.{List}
 use Prim.Native.Nat.{ℕ, ◌≤◌}
@@ -12,20 +12,14 @@ use Rattle.fields.proofs.ApartLaws.{alike_whole, alike_most}
 use Rattle.compare.specs.declared.verdict.Difference.{Difference}
 use Rattle.compare.specs.declared.verdict.Part.{Part}
 use Rattle.compare.specs.declared.verdict.Part.TheVariants.{Number, Register, Memory, Output}
-use Rattle.compare.specs.declared.verdict.Verdict.{Verdict}
-use Rattle.compare.specs.declared.verdict.Verdict.TheVariants.{Same, Differs, Torn, Unfit}
-use Rattle.compare.specs.Verdict.{difference_at, parted, or_else}
+use Rattle.std.specs.Prelude.{Result, Ok, Err}
+use Rattle.compare.specs.declared.verdict.Mismatch.{Mismatch}
+use Rattle.compare.specs.declared.verdict.Mismatch.TheVariants.{Differs}
+use Rattle.compare.specs.Verdict.{parted, parted_by, or_else}
 use Rattle.answers.specs.declared.answer.Answer.{Answer}
 use Rattle.fields.specs.Read.{byte_at, word_at}
 use Rattle.answers.specs.declared.answer.Kind.{Kind}
 use Rattle.replay.specs.Case.{fits, start_fits, compared}
-
--- every verdict but one
-abbrev differs : Verdict → Type 0
-differs Same = ⊥
-differs (Differs d) = Unit {0}
-differs (Torn n) = Unit {0}
-differs Unfit = Unit {0}
 
 pub fits_room : (kind : Kind) (case : List ℕ) → fits kind case ≡ true → word_at case 36 ≤ 4096
 unfolding fits
@@ -36,21 +30,22 @@ fits_room kind case e =
     leb-true (word_at case 36) 4096 ((and-eq-true_iff before room).0 parts.0).1
 
 -- two answers that compare as the same are the same, number by number and byte by byte
-part_same : (b : Bool) (d : Difference) → cond b (Differs d) Same ≡ Same → b ≡ false
-part_same true d e = absurd (subst differs e tt)
+abbrev same : Result (Unit {0}) Mismatch
+same = Ok tt
+
+part_same : (b : Bool) (d : Difference) → cond b (Err (Differs d)) same ≡ same → b ≡ false
+part_same true d e = cc
 part_same false d e = refl
 
-parted_same : (p : Part) (xs ys : List ℕ) → length xs ≡ length ys → parted p xs ys ≡ Same → xs ≡ ys
-unfolding parted
+parted_same : (p : Part) (xs ys : List ℕ) → length xs ≡ length ys → parted p xs ys ≡ same → xs ≡ ys
+unfolding parted_by
 parted_same p xs ys l e =
-    let within = ltb-false (alike xs ys) (length xs) (part_same _ (difference_at p (alike xs ys) xs ys) e) in
+    let within = ltb-false (alike xs ys) (length xs) (part_same _ _ e) in
     alike_whole xs ys (omega (arith, within, alike_most xs ys)) l
 
-both_same : (v w : Verdict) → or_else v w ≡ Same → (v ≡ Same) × (w ≡ Same)
-both_same Same w e = (refl, e)
-both_same (Differs d) w e = absurd (subst differs e tt)
-both_same (Torn n) w e = absurd (subst differs e tt)
-both_same Unfit w e = absurd (subst differs e tt)
+both_same : (v w : Result (Unit {0}) Mismatch) → or_else v w ≡ same → (v ≡ same) × (w ≡ same)
+both_same (Ok t) w e = (refl, e)
+both_same (Err mismatch) w e = cc
 
 abbrev made : List ℕ → List ℕ → List ℕ → Answer
 made numbers registers memory = record { numbers = numbers; registers = registers; memory = memory }
@@ -58,7 +53,7 @@ made numbers registers memory = record { numbers = numbers; registers = register
 pub same_everything :
     (ours theirs : Answer) (output expected : List ℕ) → length ours.numbers ≡ length theirs.numbers →
     length ours.registers ≡ length theirs.registers → length ours.memory ≡ length theirs.memory →
-    length output ≡ length expected → compared ours theirs output expected ≡ Same →
+    length output ≡ length expected → compared ours theirs output expected ≡ Ok tt →
     (ours ≡ theirs) × (output ≡ expected)
 unfolding compared
 same_everything ours theirs output expected n r m o e =

@@ -1,5 +1,5 @@
 -- The case of a step, a run or a load, as oracle/FORMAT.md lays it out.
-use Rattle.std.specs.Prelude.{ℕ, ◌+◌, ◌*◌, ◌%◌, Bool, true, cond, ◌&&◌, List, [], ◌∷◌, eqb, leb, length, take, replicate}
+use Rattle.std.specs.Prelude.{ℕ, ◌+◌, ◌*◌, ◌%◌, Bool, true, cond, ◌&&◌, List, [], ◌∷◌, Result, Err, eqb, leb, length, take, replicate}
 use Rattle.fields.specs.Lay.{changed, laid}
 use Rattle.fields.specs.Read.{byte_at, word_at, part, stretch}
 use Rattle.nanocore.specs.declared.machine.Machine.{Machine}
@@ -10,8 +10,8 @@ use Rattle.answers.specs.declared.answer.Kind.TheVariants.{Step, Run, Load}
 use Rattle.replay.specs.declared.case.Lent.{Lent}
 use Rattle.replay.specs.declared.case.Shape.{Shape}
 use Rattle.compare.specs.declared.verdict.Part.TheVariants.{Number, Register, Memory, Output}
-use Rattle.compare.specs.declared.verdict.Verdict.{Verdict}
-use Rattle.compare.specs.declared.verdict.Verdict.TheVariants.{Torn, Unfit}
+use Rattle.compare.specs.declared.verdict.Mismatch.{Mismatch}
+use Rattle.compare.specs.declared.verdict.Mismatch.TheVariants.{Torn, Unfit}
 use Rattle.answers.specs.Answer.{answered, answer_of}
 use Rattle.compare.specs.Verdict.{parted, or_else}
 
@@ -82,7 +82,7 @@ unfoldable pub pattern : List ℕ
 pattern = replicate 4096 0xa5
 
 -- everything that a caller sees: numbers, registers, memory, and every byte of the output buffer
-unfoldable pub compared : Answer → Answer → List ℕ → List ℕ → Verdict
+unfoldable pub compared : Answer → Answer → List ℕ → List ℕ → Result (Unit {0}) Mismatch
 compared ours theirs output expected =
     or_else
     (parted Number ours.numbers theirs.numbers)
@@ -90,11 +90,11 @@ compared ours theirs output expected =
     (parted Register ours.registers theirs.registers)
     (or_else (parted Memory ours.memory theirs.memory) (parted Output output expected)))
 
-unfoldable pub against : Answered → Answer → List ℕ → Verdict
+unfoldable pub against : Answered → Answer → List ℕ → Result (Unit {0}) Mismatch
 against r theirs expected = compared (answer_of r) theirs r.after.output expected
 
 -- what the machine of document 01 answers, against the answer of the case; the printed bytes "stand in the buffer from the number given on"
-unfoldable pub played : Kind → Machine → List ℕ → Lent → Answer → List ℕ → Verdict
+unfoldable pub played : Kind → Machine → List ℕ → Lent → Answer → List ℕ → Result (Unit {0}) Mismatch
 played kind machine input lent theirs printed =
     against
     (answered kind machine input lent.place (take lent.room pattern) lent.written)
@@ -108,7 +108,7 @@ zeros = replicate 256 0
 abbrev pub memory_of : List ℕ → Shape → List ℕ
 memory_of case shape = changed zeros (part case 48 shape.input)
 
-unfoldable pub replayed : Kind → List ℕ → Shape → Verdict
+unfoldable pub replayed : Kind → List ℕ → Shape → Result (Unit {0}) Mismatch
 replayed kind case shape =
     played
     kind
@@ -122,9 +122,9 @@ replayed kind case shape =
     (part case shape.output (length case))
 
 -- a case that is not whole is told by its length, one that does not fit is told as such, and every other is compared
-unfoldable pub verdict_of : Kind → List ℕ → Verdict
+unfoldable pub verdict_of : Kind → List ℕ → Result (Unit {0}) Mismatch
 verdict_of kind case =
     cond
     (eqb (length case) (shape_of case).end)
-    (cond (fits kind case) (replayed kind case (shape_of case)) Unfit)
-    (Torn (shape_of case).end)
+    (cond (fits kind case) (replayed kind case (shape_of case)) (Err Unfit))
+    (Err (Torn (shape_of case).end))

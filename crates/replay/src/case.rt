@@ -3,12 +3,12 @@ ghost use Rattle.std.specs.Prelude.{◌+◌, ◌<◌, ◌≤◌, ◌≡◌, leng
 ghost use Rattle.fields.specs.Lay.{laid};
 ghost use Rattle.fields.specs.Read.{word_at};
 ghost use Rattle.answers.specs.Answer.{answered};
-ghost use Rattle.replay.specs.Case.{shape_of, fits, given_by, recorded_by, pattern, zeros, compared, against, played, replayed, verdict_of};
+ghost use Rattle.replay.specs.Case.{shape_of, fits, start_fits, given_by, recorded_by, pattern, compared, against, played, replayed, verdict_of};
 
 use answers::answer::{Answer, Kind, ask};
-use compare::verdict::{Part, Verdict, numbers_parted, parted};
+use compare::verdict::{Mismatch, Part, Verdict, parted};
 use fields::lay::{changed, lay};
-use fields::read::{byte_at, sixteen, word_at};
+use fields::read::{byte_at, stretch, word_at};
 use nanocore::machine::Machine;
 
 // The longest output buffer of a case.
@@ -41,13 +41,12 @@ pub fn judge(kind: Kind, case: &[u8]) -> Verdict
 {
     let shape = measure(case);
     if case.len() != shape.end {
-        return Verdict::Torn(shape.end);
+        return Err(Mismatch::Torn(shape.end));
     }
-    if fits(kind, case) {
-        replay(kind, case, shape)
-    } else {
-        Verdict::Unfit
+    if !fits(kind, case) {
+        return Err(Mismatch::Unfit);
     }
+    replay(kind, case, shape)
 }
 
 #[tactic(auto, unfolding(crate::specs::Case::shape_of))]
@@ -63,10 +62,10 @@ fn measure(case: &[u8]) -> Shape
     let output = answer + 53 + 2 * word_at(case, answer + 49);
     let end = output + word_at(case, answer + 45);
     Shape {
-        input: input,
-        answer: answer,
-        output: output,
-        end: end,
+        input,
+        answer,
+        output,
+        end,
     }
 }
 
@@ -74,21 +73,19 @@ fn measure(case: &[u8]) -> Shape
 fn fits(kind: Kind, case: &[u8]) -> bool
     ensures { result ≡ fits kind case.now }
 {
-    if byte_at(case, 3) > 1 {
-        return false;
-    }
-    if word_at(case, 4) > 65535 {
-        return false;
-    }
-    if word_at(case, 8) > 65535 {
-        return false;
-    }
-    if word_at(case, 36) > ROOM {
-        return false;
-    }
+    byte_at(case, 3) <= 1
+        && word_at(case, 4) <= 65535
+        && word_at(case, 8) <= 65535
+        && word_at(case, 36) <= ROOM
+        && start_fits(kind, case)
+}
+
+// The place of a load is the start address.
+fn start_fits(kind: Kind, case: &[u8]) -> bool
+    ensures { result ≡ start_fits kind case.now }
+{
     match kind {
-        Kind::Step => true,
-        Kind::Run => true,
+        Kind::Step | Kind::Run => true,
         Kind::Load => word_at(case, 28) <= 255,
     }
 }
@@ -103,36 +100,28 @@ fn replay(kind: Kind, case: &[u8], shape: Shape) -> Verdict
     requires case_bound { word_at case.now 36 ≤ 4096 }
     ensures { result ≡ replayed kind case.now shape }
 {
-    let input = shape.input;
-    let answer = shape.answer;
-    let output = shape.output;
-    let memory = changed(zeros(), &case[48..input]);
-    let machine = given(case, sixteen(&case[12..28]), memory);
-    let registers = answer + 21;
-    let place = answer + 37;
-    let changes = answer + 53;
-    let theirs = recorded(
-        &case[answer..],
-        sixteen(&case[registers..place]),
-        changed(memory, &case[changes..output]),
-    );
+    let Shape {
+        input,
+        answer,
+        output,
+        ..
+    } = shape;
+    let memory = changed([0; 256], &case[48..input]);
+    let after = changed(memory, &case[answer + 53..output]);
+    let machine = given(case, stretch(&case[12..28], 0), memory);
+    let registers = stretch(&case[answer + 21..answer + 37], 0);
+    let theirs = recorded(&case[answer..], registers, after);
     let lent = Lent {
         place: word_at(case, 28),
         written: word_at(case, 32),
         room: word_at(case, 36),
     };
-    play(
-        kind,
-        machine,
-        &case[input..answer],
-        lent,
-        theirs,
-        &case[output..],
-    )
+    let input = &case[input..answer];
+    play(kind, machine, input, lent, theirs, &case[output..])
 }
 
-// Lets the machine answer, with a blank output buffer, and compares.
-#[tactic(auto, unfolding(crate::specs::Case::played))]
+// Lets the machine print into a blank output buffer, lays what was printed before into another, and compares.
+#[tactic(auto, unfolding(crate::specs::Case::played, crate::specs::Case::against))]
 fn play(
     kind: Kind,
     machine: Machine,
@@ -144,49 +133,18 @@ fn play(
     requires { lent.room ≤ 4096 }
     ensures { result ≡ played kind machine input.now lent theirs printed.now }
 {
-    let room = lent.room;
-    let mut output = blank();
-    let mut expected = blank();
-    put_beside(
-        kind,
-        machine,
-        input,
-        lent,
-        theirs,
-        printed,
-        &mut output[..room],
-        &mut expected[..room],
-    )
-}
-
-// Lets the machine print into the one buffer, lays what was printed before into the other, and compares.
-fn put_beside(
-    kind: Kind,
-    machine: Machine,
-    input: &[u8],
-    lent: Lent,
-    theirs: Answer,
-    printed: &[u8],
-    output: &mut [u8],
-    expected: &mut [u8],
-) -> Verdict
-    ensures { result
-        ≡ against
-        (answered kind machine input.now lent.place output.old lent.written)
-        theirs
-        (laid expected.old lent.written printed.now) }
-{
-    let ours = ask(kind, machine, input, lent.place, output, lent.written);
-    lay(expected, lent.written, printed);
+    let Lent {
+        place,
+        written,
+        room,
+    } = lent;
+    let mut printing = blank();
+    let mut laying = blank();
+    let output = &mut printing[..room];
+    let expected = &mut laying[..room];
+    let ours = ask(kind, machine, input, place, &mut *output, written);
+    lay(&mut *expected, written, printed);
     compare(ours, theirs, output, expected)
-}
-
-// The memory that a case's changes are laid over.
-#[tactic(auto, unfolding(crate::specs::Case::zeros))]
-fn zeros() -> [u8; 256]
-    ensures { result ≡ zeros }
-{
-    [0; 256]
 }
 
 // The output buffer of every case beforehand.
@@ -202,17 +160,10 @@ fn blank() -> [u8; ROOM]
 fn compare(ours: Answer, theirs: Answer, output: &[u8], expected: &[u8]) -> Verdict
     ensures { result ≡ compared ours theirs output.now expected.now }
 {
-    let our_numbers = ours.numbers;
-    let their_numbers = theirs.numbers;
-    let our_registers = ours.registers;
-    let their_registers = theirs.registers;
-    let our_memory = ours.memory;
-    let their_memory = theirs.memory;
-    let numbers = numbers_parted(&our_numbers, &their_numbers);
-    let registers = parted(Part::Register, &our_registers, &their_registers);
-    let memory = parted(Part::Memory, &our_memory, &their_memory);
-    let output = parted(Part::Output, output, expected);
-    numbers.or_else(registers.or_else(memory.or_else(output)))
+    parted(Part::Number, &ours.numbers, &theirs.numbers)?;
+    parted(Part::Register, &ours.registers, &theirs.registers)?;
+    parted(Part::Memory, &ours.memory, &theirs.memory)?;
+    parted(Part::Output, output, expected)
 }
 
 // The machine that was given.
@@ -220,8 +171,8 @@ fn given(case: &[u8], registers: [u8; 16], memory: [u8; 256]) -> Machine
     ensures { result ≡ given_by case.now registers memory }
 {
     Machine {
-        registers: registers,
-        memory: memory,
+        registers,
+        memory,
         pc: byte_at(case, 0),
         sp: byte_at(case, 1),
         flags: byte_at(case, 2),
@@ -237,19 +188,19 @@ fn recorded(answer: &[u8], registers: [u8; 16], memory: [u8; 256]) -> Answer
 {
     Answer {
         numbers: [
-            byte_at(answer, 0) as usize,
+            usize::from(byte_at(answer, 0)),
             word_at(answer, 1),
             word_at(answer, 5),
-            byte_at(answer, 9) as usize,
-            byte_at(answer, 10) as usize,
-            byte_at(answer, 11) as usize,
-            byte_at(answer, 12) as usize,
+            usize::from(byte_at(answer, 9)),
+            usize::from(byte_at(answer, 10)),
+            usize::from(byte_at(answer, 11)),
+            usize::from(byte_at(answer, 12)),
             word_at(answer, 13),
             word_at(answer, 17),
             word_at(answer, 37),
             word_at(answer, 41),
         ],
-        registers: registers,
-        memory: memory,
+        registers,
+        memory,
     }
 }
