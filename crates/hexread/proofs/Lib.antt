@@ -1,4 +1,3 @@
 pub mod PlaceLaws
 pub mod LineLaws
-mod ReadLaws
 pub mod AnswerLaws

@@ -1,28 +1,15 @@
 -- What a line does to the reading.
-use mathlib.Core.Path.{◌≡◌, refl, sym, ◌∙◌, ap}
+use mathlib.Core.Path.{◌≡◌, refl, sym, ap}
 use mathlib.Core.Bool.{Bool, true, false, cond}
 use mathlib.Core.List.{List, [], ◌∷◌, ◌++◌, append_assoc, append-nil}
-use Prim.Native.Nat.{ℕ, suc, ◌+◌, ◌-◌, ◌≤◌, ◌<◌}
+use Prim.Native.Nat.{ℕ, suc, ◌+◌, ◌≤◌, ◌<◌}
 use native.Mathlib.Omega.{arith}
 use lib.Dec.{eqb}
-use lib.ListN.{length, take, drop, length-append, length-drop, drop_of_length-le}
-use lib.Seq.{drop-cons, drop-drop}
+use lib.ListN.{length, take, drop, length-append, length-drop}
 use Rattle.scan.specs.declared.class.Class.TheVariants.{Is}
 use Rattle.scan.specs.Class.{passes}
 use Rattle.scan.specs.Scan.{first}
-use Rattle.hexline.specs.declared.record.Kind.{Kind}
-use Rattle.hexline.specs.declared.record.Record.{Record}
-use Rattle.hexline.specs.Code.{kinded, rowing}
-use Rattle.hexline.specs.Row.{row_of}
-use Rattle.hexread.specs.File.{Sheet, Progress, ended, Outcome, accepted, rejected, after, turn, onward, lines_from}
-
--- by the kind of the record that the line is
-pub turned :
-    (r : Record) {k : Kind} (line : List ℕ) (number : ℕ) (s : Sheet) → r.kind ≡ k → rowing r ≡ row_of line →
-    after (kinded k (take r.length r.bytes)) number s ≡ turn number s line
-unfolding turn
-turned r line number s kind row =
-    ap (λ k. after (kinded k (take r.length r.bytes)) number s) (sym kind) ∙ ap (λ row. after row number s) row
+use Rattle.hexread.specs.File.{Sheet, IsFirstLine, Progress, ended, Outcome, accepted, rejected, turn, onward, lines_from}
 
 -- a line goes to its LF, and the next one begins behind that
 pub line_read :
@@ -53,7 +40,7 @@ line_read number line s (b ∷ rest) h = by (eqb b 0x0a) h (line_read number (li
         rw (behind, ← append_assoc line (b ∷ []) (take f rest)) (next (omega arith))
 
 -- without LF there is no line
-pub line_open :
+line_open :
     (number : ℕ) (line : List ℕ) (s : Sheet) (text : List ℕ) → 0 < length line + length text → length text ≤ first (Is 0x0a) text →
     lines_from number line s text ≡ rejected (20 ∷ number ∷ [])
 unfolding lines_from first passes
@@ -69,25 +56,32 @@ line_open number line s (b ∷ rest) some h = by (eqb b 0x0a) h (line_open numbe
     by true h next = absurd (omega arith)
     by false h next = next (omega arith)
 
--- behind the end record
-module _ (s : Sheet) (next : Sheet → Outcome) (text : List ℕ) (k : ℕ) where
-  pub nothing_behind : length text ≤ k → onward (ended s) next (drop k text) ≡ accepted s
-  nothing_behind h = rw (drop_of_length-le text h)
+-- a last line without LF
+pub unclosed :
+    (number : ℕ) (s : Sheet) (text : List ℕ) → 0 < length text → length text ≤ first (Is 0x0a) text →
+    rejected (20 ∷ number ∷ []) ≡ lines_from number [] s text
+unclosed number s text some past = sym (line_open number [] s text (omega arith) past)
 
-  pub text_behind : k < length text → onward (ended s) next (drop k text) ≡ rejected (26 ∷ [])
-  text_behind h = rw (drop-cons text k 0 h)
+pub behind_shorter : (text line behind : List ℕ) → IsFirstLine text line behind → length behind < length text
+behind_shorter text line behind first-line =
+    omega (arith, first-line.0, ap length first-line.2, simp length-drop at (ap length first-line.2))
 
--- at a place of the text, where a line begins that goes to an end
-module _
-    (text : List ℕ) (at end number : ℕ) (s : Sheet) (inside : at < length text) (ends : end ≡ at + first (Is 0x0a) (drop at text)) where
-  pub unclosed : length text ≤ end → rejected (20 ∷ number ∷ []) ≡ lines_from number [] s (drop at text)
-  unclosed past = sym (line_open number [] s (drop at text) (omega (arith, length-drop at text)) (omega (arith, length-drop at text)))
+-- where a line is whole, what it comes to tells what the text does
+pub line_here :
+    (number : ℕ) (s : Sheet) (text line behind : List ℕ) {p : Progress} → IsFirstLine text line behind → p ≡ turn number s line →
+    onward p (λ s. lines_from (number + 1) [] s behind) behind ≡ lines_from number [] s text
+line_here number s text line behind first-line read =
+    rw (read, first-line.1, first-line.2) (sym (line_read number [] s text first-line.0))
 
-  module _ (closed : end < length text) {p : Progress} (read : p ≡ turn number s (take (end - at) (drop at text))) where
-    pub line_here :
-        onward p (λ s. lines_from (number + 1) [] s (drop (end + 1) text)) (drop (end + 1) text) ≡ lines_from number [] s (drop at text)
-    line_here =
-        let size : first (Is 0x0a) (drop at text) ≡ end - at = omega arith in
-        let behind : at + (end - at + 1) ≡ end + 1 = omega arith in
-        let line = rw (size, drop-drop (end - at + 1) at text, behind) at (line_read number [] s (drop at text) (omega (arith, length-drop at text))) in
-        ap (λ p. onward p (λ s. lines_from (number + 1) [] s (drop (end + 1) text)) (drop (end + 1) text)) read ∙ sym line
+pub text_behind : (s : Sheet) (next : Sheet → Outcome) (behind : List ℕ) → 0 < length behind → onward (ended s) next behind ≡ rejected (26 ∷ [])
+text_behind s next [] some = absurd (omega arith)
+text_behind s next (b ∷ behind) some = refl
+
+pub nothing_behind : (s : Sheet) (next : Sheet → Outcome) (behind : List ℕ) → length behind ≡ 0 → onward (ended s) next behind ≡ accepted s
+nothing_behind s next [] none = refl
+nothing_behind s next (b ∷ behind) none = absurd (omega arith)
+
+pub no_end : (number : ℕ) (s : Sheet) (text : List ℕ) → length text ≡ 0 → rejected (25 ∷ []) ≡ lines_from number [] s text
+unfolding lines_from
+no_end number s [] none = refl
+no_end number s (b ∷ text) none = absurd (omega arith)

@@ -1,7 +1,7 @@
 -- What a text of Intel HEX does to "a lent 256-byte image with a mark each (0 clear, else set, written 1)".
-use Rattle.std.specs.Prelude.{ℕ, ◌+◌, cond, ◌&&◌, List, [], ◌∷◌, ◌++◌, eqb, ltb, length, take, drop, replicate}
-use Rattle.scan.specs.declared.class.Class.TheVariants.{IsNot}
-use Rattle.scan.specs.Scan.{some}
+use Rattle.std.specs.Prelude.{ℕ, ◌≡◌, ◌<◌, ◌+◌, cond, ◌&&◌, List, [], ◌∷◌, ◌++◌, eqb, ltb, length, take, drop, replicate}
+use Rattle.scan.specs.declared.class.Class.TheVariants.{Is, IsNot}
+use Rattle.scan.specs.Scan.{first, some}
 use Rattle.hexline.specs.Row.{Row, fills, ends, refused as row_refused, row_of}
 
 -- the image and its marks
@@ -63,6 +63,12 @@ lines_from number line s (b ∷ rest) =
     cond (eqb b 0x0a)
     (onward (turn number s line) (λ s. lines_from (number + 1) [] s rest) rest)
     (lines_from number (line ++ (b ∷ [])) s rest)
+
+-- a text that begins with a line, cut at its LF, and goes on behind it
+abbrev pub IsFirstLine : (text line behind : List ℕ) → Type 0
+IsFirstLine text line behind =
+    let end = first (Is 0x0a) text in
+    (end < length text) × (line ≡ take end text) × (behind ≡ drop (end + 1) text)
 
 -- "a read takes them as clear"
 abbrev pub file_of : (text image : List ℕ) → Outcome

@@ -1,13 +1,7 @@
 // What a reading answers.
 
-#[derive(Clone, Copy)]
-pub enum ReadAnswer {
-    Done,
-    Refused(Refusal),
-}
-
 // Why image and marks are as they were. Five come with the line.
-#[derive(Clone, Copy)]
+#[derive(Clone, Copy, PartialEq, Eq, Debug)]
 pub enum Refusal {
     NoImage,
     Shape(usize),

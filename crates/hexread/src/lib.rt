@@ -5,5 +5,5 @@
 pub mod answer;
 // The lines one after the other.
 pub mod read;
-// One record onto the image.
-mod place;
+// The image and the marks that the lines are read onto.
+mod sheet;

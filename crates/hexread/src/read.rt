@@ -1,87 +1,100 @@
 // A text of Intel HEX, onto a lent image and its marks.
-ghost use Rattle.std.specs.Prelude.{[], ◌≡◌, length};
-ghost use Rattle.hexread.specs.File.{lines_from, reading_of, sheet, told, turn};
-ghost use Rattle.hexread.specs.Numbers.{outcome, progress, read_number};
+ghost use Rattle.std.specs.Prelude.{[], ◌≡◌, ◌≤◌, MatchOption, length};
+ghost use Rattle.hexline.specs.Code.{misread_number};
+ghost use Rattle.scan.specs.declared.class.Class.TheVariants.{Is};
+ghost use Rattle.scan.specs.Scan.{first};
+ghost use Rattle.hexread.specs.File.{IsFirstLine, lines_from, reading_of, sheet as as_sheet, told, turn};
+ghost use Rattle.hexread.specs.Numbers.{in_line, outcome, progress, read_number, refusal_number};
 
-use crate::answer::{ReadAnswer, Refusal};
-use crate::place::{Turn, place};
-use fields::lay::lay;
-use hexline::record::{Kind, Record};
-use scan::scan::line_end;
+use crate::answer::Refusal;
+use crate::sheet::Sheet;
+use hexline::record::{Misread, Record};
+use scan::class::Class;
+use scan::scan::first;
+
+// After a line that is read: the next one, or the end.
+#[derive(Clone, Copy, PartialEq, Eq, Debug)]
+pub enum Turn {
+    Goes,
+    Ended,
+}
 
 // The lines are read onto a copy, so that a refused text leaves image and marks as they were.
-pub fn read(text: &[u8], image: &mut [u8], marks: &mut [u8]) -> ReadAnswer
+#[tactic(auto, unfolding(crate::specs::File::reading_of))]
+pub fn read(text: &[u8], image: &mut [u8], marks: &mut [u8]) -> Result<(), Refusal>
     ensures { told (read_number result) image.new marks.new
         ≡ reading_of text.now image.old marks.old }
 {
-    if image.len() != 256 {
-        return ReadAnswer::Refused(Refusal::NoImage);
+    if image.len() != 256 || marks.len() != 256 {
+        return Err(Refusal::NoImage);
     }
-    if marks.len() != 256 {
-        return ReadAnswer::Refused(Refusal::NoImage);
-    }
-    let mut copy = [0u8; 256];
-    lay(&mut copy, 0, image);
-    let mut found = [0u8; 256];
-    let answer = read_lines(text, &mut copy, &mut found);
-    match answer {
-        ReadAnswer::Done => {
-            lay(image, 0, &copy);
-            lay(marks, 0, &found);
-            ReadAnswer::Done
-        },
-        ReadAnswer::Refused(refusal) => ReadAnswer::Refused(refusal),
-    }
+    let mut sheet = Sheet {
+        image: [0; 256],
+        marks: [0; 256],
+    };
+    sheet.image.copy_from_slice(image);
+    read_lines(text, &mut sheet)?;
+    image.copy_from_slice(&sheet.image);
+    marks.copy_from_slice(&sheet.marks);
+    Ok(())
 }
 
 // Up to the end record. Where it refuses, what it has filled by then stays.
-fn read_lines(text: &[u8], image: &mut [u8], marks: &mut [u8]) -> ReadAnswer
-    requires image_len { length image.old ≡ 256 }
-    requires marks_len { length marks.old ≡ 256 }
-    ensures { outcome result image.new marks.new
-        ≡ lines_from 1 [] (sheet image.old marks.old) text.now }
+fn read_lines(text: &[u8], sheet: &mut Sheet) -> Result<(), Refusal>
+    ensures { outcome result sheet.new.image sheet.new.marks
+        ≡ lines_from 1 [] (as_sheet sheet.old.image sheet.old.marks) text.now }
 {
     let mut number: usize = 1;
-    let mut at: usize = 0;
-    while at < text.len() {
-        let end = line_end(text, at);
-        if end >= text.len() {
-            return ReadAnswer::Refused(Refusal::Shape(number));
-        }
-        match turn(&text[at..end], number, image, marks) {
+    let mut rest = text;
+    while !rest.is_empty() {
+        let Some((line, behind)) = first_line(rest) else {
+            return Err(Refusal::Shape(number));
+        };
+        match read_line(line, number, sheet)? {
             Turn::Goes => {},
-            Turn::Ended => {
-                if end + 1 < text.len() {
-                    return ReadAnswer::Refused(Refusal::TextAfter);
-                }
-                return ReadAnswer::Done;
-            },
-            Turn::Stopped(refusal) => return ReadAnswer::Refused(refusal),
+            Turn::Ended if behind.is_empty() => return Ok(()),
+            Turn::Ended => return Err(Refusal::TextAfter),
         }
         number += 1;
-        at = end + 1;
+        rest = behind;
     }
-    ReadAnswer::Refused(Refusal::NoEnd)
+    Err(Refusal::NoEnd)
+}
+
+// The first line, without its LF, and what stands behind it.
+fn first_line(text: &[u8]) -> Option<(&[u8], &[u8])>
+    ensures { MatchOption result (length text.now ≤ first (Is 0x0a) text.now) (λ parts. IsFirstLine text.now parts.0.now parts.1.now) }
+{
+    let end = first(Class::Is(b'\n'), text);
+    if end == text.len() {
+        return None;
+    }
+    Some((&text[..end], &text[end + 1..]))
 }
 
 // One line, without its LF.
-fn turn(line: &[u8], number: usize, image: &mut [u8], marks: &mut [u8]) -> Turn
-    requires image_len { length image.old ≡ 256 }
-    requires marks_len { length marks.old ≡ 256 }
-    ensures { progress result image.new marks.new
-        ≡ turn number (sheet image.old marks.old) line.now }
+#[tactic(auto, unfolding(crate::specs::File::turn))]
+fn read_line(line: &[u8], number: usize, sheet: &mut Sheet) -> Result<Turn, Refusal>
+    ensures { progress result sheet.new.image sheet.new.marks
+        ≡ turn number (as_sheet sheet.old.image sheet.old.marks) line.now }
 {
-    let record = Record::of(line);
-    let kind = record.kind;
-    match kind {
-        Kind::Fills => {
-            let bytes = record.bytes;
-            let length = record.length;
-            place(&bytes[..length], number, image, marks)
+    match Record::of(line) {
+        Ok(Record::Fills(spelled)) => {
+            sheet.place(spelled.as_bytes(), number)?;
+            Ok(Turn::Goes)
         },
-        Kind::Ends => Turn::Ended,
-        Kind::Shape => Turn::Stopped(Refusal::Shape(number)),
-        Kind::Checksum => Turn::Stopped(Refusal::Checksum(number)),
-        Kind::OtherType => Turn::Stopped(Refusal::OtherType(number)),
+        Ok(Record::Ends) => Ok(Turn::Ended),
+        Err(misread) => Err(refusal(misread, number)),
+    }
+}
+
+// A line that is no record, as the reading tells it.
+fn refusal(misread: Misread, number: usize) -> Refusal
+    ensures { refusal_number result ≡ in_line (misread_number misread) number }
+{
+    match misread {
+        Misread::Shape => Refusal::Shape(number),
+        Misread::Checksum => Refusal::Checksum(number),
+        Misread::OtherType => Refusal::OtherType(number),
     }
 }
