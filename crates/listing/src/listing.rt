@@ -1,5 +1,5 @@
 // The listing of a program at a start address, into a lent buffer.
-ghost use Rattle.std.specs.Prelude.{◌+◌, ◌≤◌, ◌++◌, ◌≡◌, length, drop};
+ghost use Rattle.std.specs.Prelude.{◌+◌, ◌≤◌, ◌++◌, ◌≡◌, IfOk, length, drop};
 ghost use Rattle.fields.specs.Written.{told};
 ghost use Rattle.front.specs.Listed.{listed};
 ghost use Rattle.listing.specs.Listing.{listing_of};
@@ -8,31 +8,30 @@ ghost use Rattle.listing.specs.Numbers.{list_number};
 use fields::lay::lay;
 use row::row::Row;
 
-// The length of the text, or why there is none: the program's length and its start, or the room that the text needs.
-#[derive(Clone, Copy)]
-pub enum ListAnswer {
-    Listed(usize),
+// Why there is no listing: the program's length and its start, or the room that the text needs.
+#[derive(Clone, Copy, PartialEq, Eq, Debug)]
+pub enum ListRefusal {
     TooLong { length: usize, start: u8 },
     NoRoom(usize),
 }
 
-// Measured before it is written, so that a buffer without room stays as it was.
-pub fn list(program: &[u8], start: u8, buffer: &mut [u8]) -> ListAnswer
-    ensures { told (list_number result) buffer.new ≡ listing_of program.now start buffer.old }
+// The length of the text. It is measured before it is written, so that a buffer without room stays as it was.
+pub fn list(program: &[u8], start: u8, buffer: &mut [u8]) -> Result<usize, ListRefusal>
+    ensures value { told (list_number result) buffer.new ≡ listing_of program.now start buffer.old }
+    ensures bound { IfOk result (λ n. n ≤ length buffer.new) }
 {
-    let from = start as usize;
-    if 256 - from < program.len() {
-        return ListAnswer::TooLong {
+    if 256 - usize::from(start) < program.len() {
+        return Err(ListRefusal::TooLong {
             length: program.len(),
-            start: start,
-        };
+            start,
+        });
     }
     let needed = measure(program, start);
     if buffer.len() < needed {
-        return ListAnswer::NoRoom(needed);
+        return Err(ListRefusal::NoRoom(needed));
     }
     write(program, start, buffer);
-    ListAnswer::Listed(needed)
+    Ok(needed)
 }
 
 // How long the text is.
@@ -40,8 +39,8 @@ fn measure(program: &[u8], start: u8) -> usize
     requires { start + length program.now ≤ 256 }
     ensures { result ≡ length (listed program.now start) }
 {
-    let mut needed: usize = 0;
-    let mut at: usize = 0;
+    let mut needed = 0;
+    let mut at = 0;
     while at < program.len() {
         let row = Row::of(program, start, at);
         needed += row.line.length;
@@ -55,14 +54,12 @@ fn write(program: &[u8], start: u8, buffer: &mut [u8])
     requires start_in_bounds { length (listed program.now start) ≤ length buffer.old }
     ensures { buffer.new ≡ listed program.now start ++ drop (length (listed program.now start)) buffer.old }
 {
-    let mut place: usize = 0;
-    let mut at: usize = 0;
+    let mut place = 0;
+    let mut at = 0;
     while at < program.len() {
         let row = Row::of(program, start, at);
-        let bytes = row.line.bytes;
-        let length = row.line.length;
-        lay(buffer, place, &bytes[..length]);
-        place += length;
+        lay(buffer, place, row.line.as_bytes());
+        place += row.line.length;
         at = row.next;
     }
 }

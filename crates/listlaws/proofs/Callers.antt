@@ -10,7 +10,7 @@ use Rattle.fields.specs.Written.{told, written}
 use Rattle.fields.proofs.WrittenLaws.{text_first}
 use Rattle.front.specs.Listed.{listed}
 use Rattle.front.proofs.TextTells.{listing_tells_program}
-use Rattle.listing.specs.declared.listing.ListAnswer.TheVariants.{Listed}
+use Rattle.std.specs.Prelude.{Ok}
 use Rattle.listing.specs.Listing.{listing_of}
 use Rattle.listing.specs.Numbers.{list_number}
 use Rattle.listlaws.specs.Tells.{CallsTellProgram}
@@ -18,7 +18,7 @@ use Rattle.listlaws.specs.Tells.{CallsTellProgram}
 -- what an accepted call wrote is the program's text
 text_there :
     (program : List ℕ) (start : ℕ) (before after : List ℕ) (n : ℕ) →
-    told (list_number (Listed n)) after ≡ listing_of program start before → take n after ≡ listed program start
+    told (list_number (Ok n)) after ≡ listing_of program start before → take n after ≡ listed program start
 unfolding listing_of
 text_there program start before after n e = by (ltb 256 (start + length program)) e
   where

@@ -1,8 +1,7 @@
 -- The listing hides no difference, as callers see it.
-use Rattle.std.specs.Prelude.{ℕ, ◌≡◌, List, take}
+use Rattle.std.specs.Prelude.{ℕ, ◌≡◌, List, Ok, take}
 use Rattle.fields.specs.Bytes.{Bytes}
 use Rattle.fields.specs.Written.{told}
-use Rattle.listing.specs.declared.listing.ListAnswer.TheVariants.{Listed}
 use Rattle.listing.specs.Listing.{listing_of}
 use Rattle.listing.specs.Numbers.{list_number}
 
@@ -11,6 +10,6 @@ use Rattle.listing.specs.Numbers.{list_number}
 abbrev pub CallsTellProgram : Type 0
 CallsTellProgram =
     (program other : List ℕ) (start : ℕ) (before after lent left : List ℕ) (n m : ℕ) → Bytes program → Bytes other →
-    told (list_number (Listed n)) after ≡ listing_of program start before →
-    told (list_number (Listed m)) left ≡ listing_of other start lent →
+    told (list_number (Ok n)) after ≡ listing_of program start before →
+    told (list_number (Ok m)) left ≡ listing_of other start lent →
     take n after ≡ take m left → program ≡ other

@@ -3,22 +3,22 @@ use Rattle.std.proofs.Common.{◌+◌, length, arith, lt-ltb, le-ltb}
 use Rattle.listing.specs.Listing.{listing_of}
 use Rattle.listing.proofs.listing.list.Goals as goal
 
-pub returns-then-from-program : goal.returns-then-from-program
+pub returns-then-from-program-clause-value : goal.returns-then-from-program-clause-value
 unfolding listing_of
-returns-then-from-program c = rw (lt-ltb 256 (c.args.start + length c.args.program.now) (omega arith))
+returns-then-from-program-clause-value c = rw (lt-ltb 256 (c.args.start + length c.args.program.now) (omega arith))
 
-pub returns-then-buffer-needed : goal.returns-then-buffer-needed
+pub returns-then-buffer-needed-clause-value : goal.returns-then-buffer-needed-clause-value
 unfolding listing_of
-returns-then-buffer-needed c =
+returns-then-buffer-needed-clause-value c =
     rw (
       le-ltb 256 (c.args.start + length c.args.program.now) (omega arith),
       ← c.measure-needed.ensures,
       lt-ltb _ _ c.if-buffer-needed.true,
     )
 
-pub returns : goal.returns
+pub returns-clause-value : goal.returns-clause-value
 unfolding listing_of
-returns c =
+returns-clause-value c =
     rw (
       c.write.ensures,
       le-ltb 256 (c.args.start + length c.args.program.now) (omega arith),

@@ -22,7 +22,7 @@ loop-at-preserved c =
       omega arith,
       omega arith,
       c.lay.auto.buffer ∙ l.invariant.2,
-      rw (c.lay.ensures, holds.whole)
+      rw (c.lay.ensures, c.as_bytes.ensures, holds.whole)
           (laid_next l.buffer l.place line left holds.size ∙ sym (ap (laid l.buffer l.place) turn) ∙ l.invariant.3),
     )
 
