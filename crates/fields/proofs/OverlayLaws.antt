@@ -70,3 +70,5 @@ module _ (xs image marks : List ℕ) (i : ℕ) where
 
     pub unmarked : get_or marks i 0 ≡ 0 → laid_from (i + 1) xs image marks ≡ laid_from i xs image marks
     unmarked none = rw (set-get_or xs i 0) at (turn (get_or xs i 0) (rw (eq-eqb (get_or marks i 0) 0 none)))
+
+pub ruleset overlay_laws = (bytes_ended, image_ended, marks_ended)
