@@ -2,11 +2,11 @@
 ghost use Rattle.std.specs.Prelude.{◌≡◌};
 ghost use Rattle.lines.specs.Table.{opcode_answer, name_answer, flags_answer, opcode_verdict, name_verdict, flags_verdict};
 
-use compare::verdict::{Part, Verdict, parted};
-use fields::read::byte_at;
-use names::name::{Name, from_name};
+use compare::verdict::{Mismatch, Part, Verdict, parted};
+use fields::read::{byte_at, stretch};
+use names::name::{from_name, name as name_of};
 use nanocore::machine::Machine;
-use op::operation::{Lookup, Op};
+use op::operation::Op;
 
 // A byte: the operation, its byte, length and name.
 #[tactic(auto, unfolding(crate::specs::Table::opcode_verdict))]
@@ -14,7 +14,7 @@ pub fn opcode(case: &[u8]) -> Verdict
     ensures { result ≡ opcode_verdict case.now }
 {
     if case.len() != 10 {
-        return Verdict::Torn(10);
+        return Err(Mismatch::Torn(10));
     }
     let ours = opcode_answer(byte_at(case, 0));
     parted(Part::Number, &ours, &case[1..])
@@ -28,7 +28,7 @@ pub fn name(case: &[u8]) -> Verdict
     let end = 1 + byte_at(case, 0) as usize;
     let needed = end + 2;
     if case.len() != needed {
-        return Verdict::Torn(needed);
+        return Err(Mismatch::Torn(needed));
     }
     let ours = name_answer(&case[1..end]);
     parted(Part::Number, &ours, &case[end..])
@@ -40,7 +40,7 @@ pub fn flags(case: &[u8]) -> Verdict
     ensures { result ≡ flags_verdict case.now }
 {
     if case.len() != 6 {
-        return Verdict::Torn(6);
+        return Err(Mismatch::Torn(6));
     }
     let ours = flags_answer(byte_at(case, 0), byte_at(case, 1));
     parted(Part::Number, &ours, &case[2..])
@@ -50,32 +50,30 @@ pub fn flags(case: &[u8]) -> Verdict
 fn opcode_answer(value: u8) -> [u8; 9]
     ensures { result ≡ opcode_answer value }
 {
-    match Op::decode(value) {
-        Lookup::Found(op) => {
-            let name = Name::of(op);
-            let text = name.bytes;
-            [
-                1,
-                op.byte(),
-                op.instruction_len(),
-                name.length as u8,
-                text[0],
-                text[1],
-                text[2],
-                text[3],
-                text[4],
-            ]
-        },
-        Lookup::Unknown => [0; 9],
-    }
+    let Some(op) = Op::decode(value) else {
+        return [0; 9];
+    };
+    let name = name_of(op).as_bytes();
+    let [a, b, c, d, e]: [u8; 5] = stretch(name, 0);
+    [
+        1,
+        op.byte(),
+        op.instruction_len(),
+        name.len() as u8,
+        a,
+        b,
+        c,
+        d,
+        e,
+    ]
 }
 
 fn name_answer(text: &[u8]) -> [u8; 2]
     ensures { result ≡ name_answer text.now }
 {
     match from_name(text) {
-        Lookup::Found(op) => [1, op.byte()],
-        Lookup::Unknown => [0; 2],
+        Some(op) => [1, op.byte()],
+        None => [0; 2],
     }
 }
 
@@ -84,13 +82,10 @@ fn flags_answer(flags: u8, byte: u8) -> [u8; 4]
 {
     let mut machine = Machine::fresh();
     machine.flags = flags;
-    let set = machine.set_flag(byte);
-    let clear = machine.clear_flag(byte);
-    let updated = machine.update_zn_flags(byte);
     [
-        set.flags,
-        clear.flags,
-        machine.get_flag(byte) as u8,
-        updated.flags,
+        machine.set_flag(byte).flags,
+        machine.clear_flag(byte).flags,
+        u8::from(machine.get_flag(byte)),
+        machine.update_zn_flags(byte).flags,
     ]
 }
