@@ -1,7 +1,7 @@
 // The verdicts of every way to end, with numbers of every length.
 use effect::Fault;
-use nanocore::answer::RunAnswer;
-use program::print;
+use nanocore::answer::RunRefusal;
+use program::print::text;
 use rule::verdict::{too_long, verdict};
 use std::rt::Stdout;
 
@@ -13,43 +13,48 @@ pub fn print(out: Stdout) {
 }
 
 fn halted(out: Stdout) {
-    print::line(out, verdict(RunAnswer::Halted, 0, 0));
-    print::line(out, verdict(RunAnswer::Halted, 5, 6));
-    print::line(out, verdict(RunAnswer::Halted, 65535, 255));
+    for (count, pc) in [(0, 0), (5, 6), (65535, 255)] {
+        text(out, verdict(Ok(()), count, pc).as_bytes());
+    }
 }
 
 fn faults(out: Stdout) {
-    fault(out, Fault::InvalidOpcode { opcode: 40, pc: 7 }, 12, 7);
-    fault(
-        out,
-        Fault::InvalidOpcode {
-            opcode: 255,
-            pc: 255,
-        },
-        0,
-        255,
-    );
-    fault(out, Fault::StackFull(234), 21, 42);
-    fault(out, Fault::StackEmpty(255), 9, 10);
-    fault(out, Fault::DivisorZero(28), 99, 100);
-    fault(out, Fault::DivisorZero(31), 999, 99);
-    fault(out, Fault::NoInput, 1000, 9);
-    fault(out, Fault::NoRoom, 9999, 1);
-}
-
-fn fault(out: Stdout, fault: Fault, count: u16, pc: u8) {
-    print::line(out, verdict(RunAnswer::Refused(fault), count, pc));
+    let faults = [
+        (Fault::InvalidOpcode { opcode: 40, pc: 7 }, 12, 7),
+        (
+            Fault::InvalidOpcode {
+                opcode: 255,
+                pc: 255,
+            },
+            0,
+            255,
+        ),
+        (Fault::StackFull(234), 21, 42),
+        (Fault::StackEmpty(255), 9, 10),
+        (Fault::DivisorZero(28), 99, 100),
+        (Fault::DivisorZero(31), 999, 99),
+        (Fault::NoInput, 1000, 9),
+        (Fault::NoRoom, 9999, 1),
+    ];
+    for (fault, count, pc) in faults {
+        text(
+            out,
+            verdict(Err(RunRefusal::Fault(fault)), count, pc).as_bytes(),
+        );
+    }
 }
 
 fn limits(out: Stdout) {
-    print::line(out, verdict(RunAnswer::LimitReached(0), 0, 0));
-    print::line(out, verdict(RunAnswer::LimitReached(1024), 1024, 0));
-    print::line(out, verdict(RunAnswer::LimitReached(65535), 65535, 199));
+    for (limit, pc) in [(0, 0), (1024, 0), (65535, 199)] {
+        text(
+            out,
+            verdict(Err(RunRefusal::LimitReached(limit)), limit, pc).as_bytes(),
+        );
+    }
 }
 
 fn loads(out: Stdout) {
-    print::line(out, too_long(2, 255));
-    print::line(out, too_long(257, 0));
-    print::line(out, too_long(300, 0));
-    print::line(out, too_long(18446744073709551615, 255));
+    for (length, start) in [(2, 255), (257, 0), (300, 0), (usize::MAX, 255)] {
+        text(out, too_long(length, start).as_bytes());
+    }
 }

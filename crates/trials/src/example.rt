@@ -1,9 +1,8 @@
 // A rule that is run, what it was to print, and whether lent steps take it to the same end.
+ghost use Rattle.std.specs.Prelude.{◌+◌, ◌≤◌};
 ghost use Rattle.files.specs.Counts.{IsPrefixLen};
 
 use crate::lent;
-use fields::apart::alike;
-use files::Got;
 use program::input::argument;
 use program::print;
 use rule::rule::run_rule;
@@ -12,75 +11,70 @@ use std::rt::{Env, Files, Stdout};
 // The limit of a fresh machine.
 const LIMIT: u16 = 1024;
 
-// Each file is named by the argument of its number.
-pub fn run<R: Env + Files>(rt: &R, out: Stdout, rule: usize, input: usize, output: usize) {
-    let mut program = [0u8; 65536];
-    let mut readings = [0u8; 65536];
-    let mut expected = [0u8; 65536];
-    let a = read_argument(rt, out, rule, &mut program);
-    let b = read_argument(rt, out, input, &mut readings);
-    let c = read_argument(rt, out, output, &mut expected);
-    tell(
-        rt,
-        out,
-        rule,
-        output,
-        &program[..a.count],
-        &readings[..b.count],
-        &expected,
-        c.count,
-    );
+// The numbers of the arguments that name the files of a rule, of its input and of what it is to print.
+#[derive(Clone, Copy)]
+pub struct Example {
+    pub rule: usize,
+    pub input: usize,
+    pub output: usize,
 }
 
-fn tell<R: Env>(
-    rt: &R,
-    out: Stdout,
-    rule: usize,
-    output: usize,
-    program: &[u8],
-    readings: &[u8],
-    expected: &[u8],
-    count: usize,
-) {
-    let mut printed = [0u8; 65536];
-    let ending = run_rule(program, LIMIT, readings, &mut printed);
-    print::argument(rt, out, rule);
-    print::text(out, b" printed ");
-    print::number(out, ending.written);
-    if ending.written == count {
-        compared(rt, out, alike(&printed, expected), output);
-    } else {
-        differs(rt, out, output);
+impl Example {
+    // Behind so many arguments.
+    pub fn after(arguments: usize) -> Example
+        requires { arguments + 3 ≤ usize.MAX }
+    {
+        Example {
+            rule: arguments + 1,
+            input: arguments + 2,
+            output: arguments + 3,
+        }
     }
-    print::line(out, ending.verdict);
-    lent::compare(out, program, LIMIT, readings);
-}
 
-// What was not printed is 0 in both, so bytes that are alike to the end of the larger buffers are the same.
-fn compared<R: Env>(rt: &R, out: Stdout, same: usize, output: usize) {
-    if same == 65536 {
-        print::text(out, b" as ");
-        print::argument(rt, out, output);
-        print::text(out, b" has\n");
-    } else {
-        differs(rt, out, output);
+    pub fn run<R: Env + Files>(self, rt: &R, out: Stdout) {
+        let mut rule = [0u8; 65536];
+        let mut input = [0u8; 65536];
+        let mut output = [0u8; 65536];
+        let rule_length = read_argument(rt, out, self.rule, &mut rule);
+        let input_length = read_argument(rt, out, self.input, &mut input);
+        let output_length = read_argument(rt, out, self.output, &mut output);
+        self.tell(
+            rt,
+            out,
+            &rule[..rule_length],
+            &input[..input_length],
+            &output[..output_length],
+        );
+    }
+
+    fn tell<R: Env>(self, rt: &R, out: Stdout, rule: &[u8], input: &[u8], output: &[u8]) {
+        let mut printed = [0u8; 65536];
+        let ending = run_rule(rule, LIMIT, input, &mut printed);
+        let written = ending.written;
+        let as_wanted = if printed.get(..written) == Some(output) {
+            " as "
+        } else {
+            ", not as "
+        };
+        print::argument(rt, out, self.rule);
+        let _ = print!(out; " printed {written}{as_wanted}");
+        print::argument(rt, out, self.output);
+        let _ = println!(out; " has");
+        print::text(out, ending.verdict.as_bytes());
+        lent::compare(out, rule, LIMIT, input);
     }
 }
 
-fn differs<R: Env>(rt: &R, out: Stdout, output: usize) {
-    print::text(out, b", not as ");
-    print::argument(rt, out, output);
-    print::text(out, b" has\n");
-}
-
-// Where it could not be read, it was said.
-fn read_argument<R: Env + Files>(rt: &R, out: Stdout, i: usize, buffer: &mut [u8]) -> Got
-    ensures { IsPrefixLen result.count buffer.new }
+// How much of the file could be read. Where a read failed, it was said.
+fn read_argument<R: Env + Files>(rt: &R, out: Stdout, i: usize, buffer: &mut [u8]) -> usize
+    ensures { IsPrefixLen result buffer.new }
 {
-    let got = argument(rt, i, buffer);
-    if got.failed {
-        print::argument(rt, out, i);
-        print::text(out, b" could not be read\n");
+    match argument(rt, i, buffer) {
+        Ok(count) => count,
+        Err(cut) => {
+            print::argument(rt, out, i);
+            let _ = println!(out; " could not be read");
+            cut.count
+        }
     }
-    got
 }

@@ -6,16 +6,16 @@ mod endings;
 mod example;
 mod lent;
 
+use example::Example;
 use program::input::has_argument;
 
 fn main(rt: HostRuntime) {
     endings::print(rt.stdout());
-    let mut i: usize = 3;
-    while i < usize::MAX - 3 {
-        if !has_argument(&rt, i) {
+    for i in 0..usize::MAX / 3 {
+        let example = Example::after(3 * i);
+        if !has_argument(&rt, example.output) {
             return;
         }
-        example::run(&rt, rt.stdout(), i - 2, i - 1, i);
-        i += 3;
+        example.run(&rt, rt.stdout());
     }
 }
