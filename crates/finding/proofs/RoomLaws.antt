@@ -16,7 +16,7 @@ use Rattle.text.specs.Lines.{lined}
 use Rattle.text.proofs.LineLaws.{Holds, line_holds}
 use Rattle.front.specs.declared.front.Front.{Front}
 use Rattle.front.specs.declared.front.Front.TheVariants.{Whole, Alone}
-use Rattle.front.specs.Front.{front_of}
+use Rattle.front.specs.Front.{front_of, whole}
 use Rattle.front.proofs.SpacedLaws.{spaced_length}
 use Rattle.finding.specs.Found.{found_at, found_by}
 use Rattle.finding.specs.Line.{line_of, lines_of}
@@ -37,8 +37,8 @@ encoded_few : (o : Op) (a : Operands) → Few (encoded_of o a)
 unfolding encoded_of
 encoded_few o a = tested (same_form (shape_of a) (form_of o)) (registers_exist a) o a
 
-pub encoded_within : {e : Encoding} (o : Op) (a : Operands) → e ≡ encoded_of o a → e.length ≤ length e.bytes
-encoded_within o a e = let few = encoded_few o a in rw e (omega arith)
+pub encoded_within : {e : Encoding} (o : Op) (a : Operands) → e ≡ encoded_of o a → e.length ≤ 3
+encoded_within o a e = rw e (encoded_few o a).0
 
 line_length :
     (address : ℕ) (bytes plainly : List ℕ) → length bytes ≤ 3 → length plainly ≤ 3 → length (line_of address bytes plainly) ≤ 29
@@ -46,15 +46,19 @@ unfolding line_of
 line_length address bytes plainly few plain = simp (length-append, spaced_length pair_of 2 (λ b. refl)) (omega arith)
 
 -- what is said of what the bytes begin with: one line of an instruction that has at most three bytes, or nothing
-by_short : (front : Front) (address : ℕ) (bytes : List ℕ) → length (lines_of (found_by front address bytes)) ≤ 29
-by_short (Whole o a true) address bytes = omega arith
-by_short (Whole o a false) address bytes =
+whole_short :
+    (plain : Bool) (o : Op) (a : Operands) (address : ℕ) (bytes : List ℕ) → length (lines_of (found_by (whole o a plain) address bytes)) ≤ 29
+whole_short true o a address bytes = omega arith
+whole_short false o a address bytes =
     let said = take (length_of (form_of o)) bytes in
     let plainly = take (encoded_of o a).length (encoded_of o a).bytes in
     rw (append-nil (line_of address said plainly))
     (line_length address said plainly
     (omega (arith, (length_within (form_of o)).1, length-take (length_of (form_of o)) bytes))
     (omega (arith, (encoded_few o a).0, length-take (encoded_of o a).length (encoded_of o a).bytes)))
+
+by_short : (front : Front) (address : ℕ) (bytes : List ℕ) → length (lines_of (found_by front address bytes)) ≤ 29
+by_short (Whole i) address bytes = whole_short i.plain i.op i.operands address bytes
 by_short (Alone byte) address bytes = omega arith
 
 pub lines_short : (address : ℕ) (bytes : List ℕ) → length (lines_of (found_at address bytes)) ≤ 29

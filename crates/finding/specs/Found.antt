@@ -13,12 +13,12 @@ pub record Found : Type 0 where
 
 -- by what the bytes begin with: one instruction, or none where a byte stands alone
 abbrev pub found_by : Front → ℕ → List ℕ → List Found
-found_by (Whole o a plain) address bytes =
+found_by (Whole i) address bytes =
     record {
       address = address;
-      bytes = take (size_of (Whole o a plain)) bytes;
-      plainly = take (encoded_of o a).length (encoded_of o a).bytes;
-      is_plain = plain;
+      bytes = take (size_of (Whole i)) bytes;
+      plainly = take (encoded_of i.op i.operands).length (encoded_of i.op i.operands).bytes;
+      is_plain = i.plain;
     } ∷ []
 found_by (Alone byte) address bytes = []
 

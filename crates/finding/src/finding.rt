@@ -32,20 +32,20 @@ impl Finding {
         let front = Front::of(&rule[at..]);
         let next = at + front.size();
         match front {
-            Front::Whole(op, operands, plain) => {
-                if plain {
+            Front::Whole(found) => {
+                if found.plain {
                     Finding {
                         line: Line::empty(),
                         instructions: 1,
                         plain: 1,
-                        next: next,
+                        next,
                     }
                 } else {
                     Finding {
-                        line: line(at as u8, &rule[at..next], op, operands),
+                        line: line(at as u8, &rule[at..next], found.op, found.operands),
                         instructions: 1,
                         plain: 0,
-                        next: next,
+                        next,
                     }
                 }
             },
@@ -53,7 +53,7 @@ impl Finding {
                 line: Line::empty(),
                 instructions: 0,
                 plain: 0,
-                next: next,
+                next,
             },
         }
     }

@@ -6,36 +6,30 @@ ghost use Rattle.digits.specs.Digit.{pair_of};
 ghost use Rattle.front.specs.Line.{spaced};
 ghost use Rattle.finding.specs.Line.{line_of};
 
-use digits::digit::pair;
 use instruction::encode::encode;
 use instruction::operands::Operands;
 use op::operation::Op;
-use row::line::byte;
+use row::line::{byte, then_bytes};
 use text::line::Line;
 
 // Its address, its bytes, and those that encode gives for what they were decoded to.
+#[tactic(auto, using(text::proofs::LineLaws::appended_twice), unfolding(crate::specs::Line::line_of))]
 pub fn line(address: u8, bytes: &[u8], op: Op, operands: Operands) -> Line
     ensures { result
         ≡ lined
         (line_of address bytes.now (take (encoded_of op operands).length (encoded_of op operands).bytes)) }
 {
-    let encoded = encode(op, operands);
-    let three = encoded.bytes;
-    let length = encoded.length as usize;
-    let begun = then_bytes(byte(Line::empty(), address), bytes);
-    then_bytes(begun.text(b" plain"), &three[..length]).text(b"\n")
+    let begun = then_bytes(byte(Line::empty(), address), bytes, b"");
+    then_plainly(begun.text(b" plain"), op, operands).text(b"\n")
 }
 
-// Each byte behind a space, as two digits, behind what the line has already.
-fn then_bytes(line: Line, bytes: &[u8]) -> Line
-    ensures { result ≡ appended line (spaced pair_of bytes.now) }
+// Encode gives none where it refuses.
+fn then_plainly(line: Line, op: Op, operands: Operands) -> Line
+    ensures { result
+        ≡ appended line (spaced pair_of (take (encoded_of op operands).length (encoded_of op operands).bytes)) }
 {
-    let mut said = line;
-    let mut at: usize = 0;
-    while at < bytes.len() {
-        let digits = pair(bytes[at]);
-        said = said.text(b" ").text(&digits);
-        at += 1;
+    match encode(op, operands) {
+        Ok(encoded) => then_bytes(line, &encoded.bytes[..usize::from(encoded.length)], b""),
+        Err(_) => line,
     }
-    said
 }

@@ -20,7 +20,7 @@ use Rattle.spelling.specs.Check.{checked, counts_of, found}
 use Rattle.spelling.proofs.WalkLaws.{lines_append}
 
 one_at_most : (front : Front) (address : ℕ) (bytes : List ℕ) → length (found_by front address bytes) ≤ 1
-one_at_most (Whole o a plain) address bytes = omega arith
+one_at_most (Whole i) address bytes = omega arith
 one_at_most (Alone byte) address bytes = omega arith
 
 -- each instruction has a byte at least, and at most one line

@@ -1,5 +1,5 @@
 // The check of a rule: a line for each instruction that is not in plain spelling, and then how many are, into a lent buffer.
-ghost use Rattle.std.specs.Prelude.{◌≤◌, ◌++◌, ◌≡◌, length, drop};
+ghost use Rattle.std.specs.Prelude.{◌≤◌, ◌++◌, ◌≡◌, IfOk, length, drop};
 ghost use Rattle.fields.specs.Written.{told};
 ghost use Rattle.text.specs.Lines.{lined};
 ghost use Rattle.finding.specs.Found.{plain_in};
@@ -11,32 +11,30 @@ use fields::lay::lay;
 use finding::finding::Finding;
 use text::line::Line;
 
-// The length of the text, or why there is none: the rule's length, or the room that the text needs.
-#[derive(Clone, Copy)]
-pub enum CheckAnswer {
-    Checked(usize),
+// Why there is no text: the rule's length, or the room that the text needs.
+#[derive(Clone, Copy, PartialEq, Eq, Debug)]
+pub enum CheckRefusal {
     TooLong(usize),
     NoRoom(usize),
 }
 
-// Measured before it is written, so that a buffer without room stays as it was.
-pub fn check(rule: &[u8], buffer: &mut [u8]) -> CheckAnswer
-    ensures { told (check_number result) buffer.new ≡ check_of rule.now buffer.old }
+// The length of the text. It is measured before it is written, so that a buffer without room stays as it was.
+pub fn check(rule: &[u8], buffer: &mut [u8]) -> Result<usize, CheckRefusal>
+    ensures value { told (check_number result) buffer.new ≡ check_of rule.now buffer.old }
+    ensures bound { IfOk result (λ n. n ≤ length buffer.new) }
 {
     if rule.len() > 256 {
-        return CheckAnswer::TooLong(rule.len());
+        return Err(CheckRefusal::TooLong(rule.len()));
     }
     let tally = Tally::of(rule);
     let last = counts(tally.plain, tally.instructions);
-    let bytes = last.bytes;
-    let length = last.length;
-    let needed = tally.lines + length;
+    let needed = tally.lines + last.length;
     if buffer.len() < needed {
-        return CheckAnswer::NoRoom(needed);
+        return Err(CheckRefusal::NoRoom(needed));
     }
     write_lines(rule, buffer);
-    lay(buffer, tally.lines, &bytes[..length]);
-    CheckAnswer::Checked(needed)
+    lay(buffer, tally.lines, last.as_bytes());
+    Ok(needed)
 }
 
 // How long all lines but the last are, how many instructions there are, and how many in plain spelling.
@@ -54,10 +52,10 @@ impl Tally {
         ensures instructions_value { result.instructions ≡ length (found rule.now) }
         ensures plain_value { result.plain ≡ plain_in (found rule.now) }
     {
-        let mut lines: usize = 0;
-        let mut instructions: usize = 0;
-        let mut plain: usize = 0;
-        let mut at: usize = 0;
+        let mut lines = 0;
+        let mut instructions = 0;
+        let mut plain = 0;
+        let mut at = 0;
         while at < rule.len() {
             let finding = Finding::of(rule, at);
             lines += finding.line.length;
@@ -66,9 +64,9 @@ impl Tally {
             at = finding.next;
         }
         Tally {
-            lines: lines,
-            instructions: instructions,
-            plain: plain,
+            lines,
+            instructions,
+            plain,
         }
     }
 }
@@ -91,14 +89,12 @@ fn write_lines(rule: &[u8], buffer: &mut [u8])
     requires rule_in_bounds { length (lines_of (found rule.now)) ≤ length buffer.old }
     ensures { buffer.new ≡ lines_of (found rule.now) ++ drop (length (lines_of (found rule.now))) buffer.old }
 {
-    let mut place: usize = 0;
-    let mut at: usize = 0;
+    let mut place = 0;
+    let mut at = 0;
     while at < rule.len() {
         let finding = Finding::of(rule, at);
-        let bytes = finding.line.bytes;
-        let length = finding.line.length;
-        lay(buffer, place, &bytes[..length]);
-        place += length;
+        lay(buffer, place, finding.line.as_bytes());
+        place += finding.line.length;
         at = finding.next;
     }
 }

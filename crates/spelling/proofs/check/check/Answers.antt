@@ -1,8 +1,7 @@
 -- The two tests are the definition's, in its order, and pick its case; the last line, laid behind the others, makes
 -- the whole text.
-use Rattle.std.proofs.Common.{◌≡◌, sym, ◌∙◌, ap, ℕ, ◌+◌, ◌<◌, ◌≤◌, List, [], ◌∷◌, ◌++◌, length, drop, arith, length-append, lt-ltb, le-ltb}
+use Rattle.std.proofs.Common.{◌≡◌, ◌∙◌, ap, ℕ, ◌+◌, ◌<◌, ◌≤◌, List, [], ◌∷◌, ◌++◌, length, drop, arith, length-append, lt-ltb, le-ltb}
 use native.Mathlib.Nat.{zero-add}
-use Rattle.std.proofs.Math.Seq.{length-take-le}
 use Rattle.fields.specs.Lay.{laid}
 use Rattle.fields.specs.Written.{told}
 use Rattle.fields.proofs.LaidLaws.{laid_next, laid_whole}
@@ -36,9 +35,9 @@ module _
   needed : lines + line.length ≡ length (checked (found rule))
   needed = omega (arith, length-append (lines_of (found rule)) last, holds.size, a)
 
-pub returns-then-rule-gt256 : goal.returns-then-rule-gt256
+pub returns-then-rule-gt256-clause-value : goal.returns-then-rule-gt256-clause-value
 unfolding check_of
-returns-then-rule-gt256 c = rw (lt-ltb 256 _ c.if-rule-gt256.true)
+returns-then-rule-gt256-clause-value c = rw (lt-ltb 256 _ c.if-rule-gt256.true)
 
 pub overflow_add-needed : goal.overflow_add-needed
 overflow_add-needed c =
@@ -47,9 +46,9 @@ overflow_add-needed c =
     let size = needed rule (omega arith) t.lines_value t.instructions_value t.plain_value c.counts-last.ensures in
     omega (arith, size, check_fits rule (omega arith))
 
-pub returns-then-buffer-needed : goal.returns-then-buffer-needed
+pub returns-then-buffer-needed-clause-value : goal.returns-then-buffer-needed-clause-value
 unfolding check_of
-returns-then-buffer-needed c =
+returns-then-buffer-needed-clause-value c =
     let t = c.of-tally.ensures in
     let rule = c.args.rule.now in
     let buffer = c.args.buffer.now in
@@ -57,20 +56,9 @@ returns-then-buffer-needed c =
     let less : length buffer < length (checked (found rule)) = omega (arith, size, c.if-buffer-needed.true) in
     rw (le-ltb 256 _ c.if-rule-gt256.false, lt-ltb _ _ less) (ap (λ n. told (14 ∷ n ∷ []) buffer) size)
 
-pub slice_bounds-bytes-end : goal.slice_bounds-bytes-end
-slice_bounds-bytes-end c =
-    let t = c.of-tally.ensures in
-    (holds c.args.rule.now (omega arith) t.lines_value t.instructions_value t.plain_value c.counts-last.ensures).within
-
-pub slice_bounds-lay-end : goal.slice_bounds-lay-end
-slice_bounds-lay-end c =
-    let t = c.of-tally.ensures in
-    let held = holds c.args.rule.now (omega arith) t.lines_value t.instructions_value t.plain_value c.counts-last.ensures in
-    sym (length-take-le _ _ held.within)
-
-pub returns : goal.returns
+pub returns-clause-value : goal.returns-clause-value
 unfolding check_of
-returns c =
+returns-clause-value c =
     let t = c.of-tally.ensures in
     let rule = c.args.rule.now in
     let buffer = c.args.buffer.now in
@@ -82,7 +70,7 @@ returns c =
     let fits : length (checked fs) ≤ length buffer = omega (arith, size, c.if-buffer-needed.false) in
     let text =
     c.lay.ensures
-    ∙ ap (laid c.write_lines.new.buffer lines) held.whole
+    ∙ ap (laid c.write_lines.new.buffer lines) (c.as_bytes.ensures ∙ held.whole)
     ∙ ap (λ written. laid written lines end) c.write_lines.ensures
     ∙ behind buffer (lines_of fs) end t.lines_value fits in
     rw (le-ltb 256 _ c.if-rule-gt256.false, le-ltb _ _ fits)

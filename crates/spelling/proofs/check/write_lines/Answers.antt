@@ -1,7 +1,6 @@
 -- The line that was found is laid whole, and what is left is laid behind it; nothing wraps, since there is no more
 -- than fits.
 use Rattle.std.proofs.Common.{sym, ◌∙◌, ap, drop, arith}
-use Rattle.std.proofs.Math.Seq.{length-take-le}
 use Rattle.fields.specs.Lay.{laid}
 use Rattle.fields.proofs.LaidLaws.{laid_next, laid_whole}
 use Rattle.finding.specs.Line.{lines_of}
@@ -10,15 +9,6 @@ use Rattle.spelling.specs.Check.{found}
 use Rattle.spelling.proofs.RoomLaws.{lines_few}
 use Rattle.spelling.proofs.WalkLaws.{here, rest, rest_none, lines_turn, said_on}
 use Rattle.spelling.proofs.check.write_lines.Goals as goal
-
-pub slice_bounds-bytes-end : goal.slice_bounds-bytes-end
-slice_bounds-bytes-end c =
-    (found_holds c.loop-at.at (drop c.loop-at.at c.args.rule.now) c.of-finding.ensures.line_value).within
-
-pub slice_bounds-lay-end : goal.slice_bounds-lay-end
-slice_bounds-lay-end c =
-    sym
-    (length-take-le _ _ (found_holds c.loop-at.at (drop c.loop-at.at c.args.rule.now) c.of-finding.ensures.line_value).within)
 
 pub overflow_add-place : goal.overflow_add-place
 overflow_add-place c =
@@ -37,7 +27,7 @@ loop-at-preserved c =
       omega arith,
       said_on rule l.at more said.next_value l.place said.line_value l.invariant.1,
       c.lay.auto.buffer ∙ l.invariant.2,
-      rw (c.lay.ensures, holds.whole)
+      rw (c.lay.ensures, c.as_bytes.ensures, holds.whole)
           (laid_next l.buffer l.place (lines_of (here rule l.at)) left holds.size
           ∙ sym (ap (laid l.buffer l.place) (lines_turn rule l.at more said.next_value))
           ∙ l.invariant.3),

@@ -3,7 +3,6 @@
 use Rattle.std.proofs.Common.{◌≡◌, sym, ◌∙◌, ap, ℕ, ◌+◌, ◌-◌, ◌<◌, ◌≤◌, List, length, take, drop, arith, length-drop}
 use Rattle.std.proofs.Math.Seq.{take_all}
 use Rattle.front.specs.declared.front.Front.{Front}
-use Rattle.front.specs.declared.front.Front.TheVariants.{Whole}
 use Rattle.front.specs.Front.{front_of, size_of}
 use Rattle.front.proofs.FrontLaws.{goes_on}
 use Rattle.text.specs.Lines.{appended}
@@ -21,15 +20,14 @@ slice_bounds-line-end c =
     let within = next_within c.args.rule.now c.args.at c.of-front.ensures c.requires.at_in_bounds c.size.ensures in
     omega (arith, within)
 
-pub returns-then-plain-clause-line_value : goal.returns-then-plain-clause-line_value
+pub returns-then-found-clause-line_value : goal.returns-then-found-clause-line_value
 unfolding appended
-returns-then-plain-clause-line_value c =
-    let whole = c.in-Whole.is ∙ ap (Whole c.in-Whole.op c.in-Whole.operands) c.if-plain.true in
-    let e = sym (front_there c.args.rule.now c.args.at c.of-front.ensures) ∙ whole in
-    rw e c.empty.ensures
+returns-then-found-clause-line_value c =
+    let e = sym (front_there c.args.rule.now c.args.at c.of-front.ensures) ∙ c.in-Whole.is in
+    rw (e, c.if-found.true) c.empty.ensures
 
-pub returns-then-plain-clause-next_in_bounds : goal.returns-then-plain-clause-next_in_bounds
-returns-then-plain-clause-next_in_bounds c =
+pub returns-then-found-clause-next_in_bounds : goal.returns-then-found-clause-next_in_bounds
+returns-then-found-clause-next_in_bounds c =
     next_within c.args.rule.now c.args.at c.of-front.ensures c.requires.at_in_bounds c.size.ensures
 
 pub returns-in-Alone-clause-line_value : goal.returns-in-Alone-clause-line_value
