@@ -1,15 +1,14 @@
 -- Laws of a run of set bytes: how long it is, what it holds and where it ends.
 use mathlib.Core.Path.{◌≡◌, refl, ap}
-use mathlib.Core.Bool.{Bool, true, false, cond}
+use mathlib.Core.Bool.{Bool, true, false, cond, not}
 use mathlib.Core.List.{List, [], ◌∷◌}
 use mathlib.Core.Logic.{◌⊎◌, inl, inr, ⊎_map}
-use Prim.Native.Nat.{ℕ, zero, suc, ◌+◌, ◌%◌, ◌≤◌, ◌<◌}
-use native.Mathlib.Numerals.{add-one}
+use Prim.Native.Nat.{ℕ, zero, suc, ◌+◌, ◌-◌, ◌%◌, ◌≤◌, ◌<◌}
 use native.Mathlib.Omega.{arith}
 use lib.Dec.{eqb}
-use lib.ListN.{length, get_or, drop, drop_of_length-le}
-use lib.Seq.{drop-cons}
-use borrow.Author.Tests.{eqb-true, eqb-false, ne_eqb}
+use lib.ListN.{length, get_or, take}
+use borrow.Author.Tests.{eqb-true, eqb-false}
+use Rattle.std.specs.List.{prefix_len}
 use Rattle.hexwrite.specs.Writer.{run}
 
 -- so many bytes, from an address and the marks there on
@@ -85,24 +84,28 @@ stops {a} (longer {n = n} set on more) =
 pub run_stops : (address : ℕ) (marks : List ℕ) → Stops address marks (run address marks)
 run_stops address marks = stops (runs address marks)
 
--- what each turn of the code finds
-pub run_none : (marks : List ℕ) (at : ℕ) → length marks ≤ at → run at (drop at marks) ≡ 0
+-- up to the next address divisible by 16, the marks from the first on that are not 0
+pub run_counted :
+    (address : ℕ) (marks : List ℕ) → prefix_len (λ m. not (eqb m 0)) (take (16 - address % 16) marks) ≡ run address marks
 unfolding run
-run_none marks at h = rw (drop_of_length-le marks h)
-
-module _ (marks : List ℕ) (at : ℕ) (h : at < length marks) where
-  here : drop at marks ≡ get_or marks at 0 ∷ drop (at + 1) marks
-  here = rw (add-one at) (drop-cons marks at 0 h)
-
-  pub run_clear : get_or marks at 0 ≡ 0 → run at (drop at marks) ≡ 0
-  unfolding run
-  run_clear unset = rw (here, unset)
-
-  module _ (set : get_or marks at 0 ≡ 0 → ⊥) where
-    pub run_cut : (at + 1) % 16 ≡ 0 → run at (drop at marks) ≡ 1
-    unfolding run
-    run_cut last = rw (here, ne_eqb (get_or marks at 0) 0 set, last)
-
-    pub run_longer : ((at + 1) % 16 ≡ 0 → ⊥) → run at (drop at marks) ≡ suc (run (at + 1) (drop (at + 1) marks))
-    unfolding run
-    run_longer on = rw (here, ne_eqb (get_or marks at 0) 0 set, ne_eqb ((at + 1) % 16) 0 on)
+run_counted address [] = by (16 - address % 16)
+  where
+    by : (n : ℕ) → prefix_len (λ m. not (eqb m 0)) (take n []) ≡ 0
+    by zero = refl
+    by (suc n) = refl
+run_counted address (m ∷ ms) =
+    let some : 16 - address % 16 ≡ suc (15 - address % 16) = omega arith in
+    rw some (by (eqb m 0) (eqb ((address + 1) % 16) 0) refl (run_counted (address + 1) ms))
+  where
+    by :
+        (unset last : Bool) → eqb ((address + 1) % 16) 0 ≡ last →
+        prefix_len (λ m. not (eqb m 0)) (take (16 - (address + 1) % 16) ms) ≡ run (address + 1) ms →
+        cond (not unset) (1 + prefix_len (λ m. not (eqb m 0)) (take (15 - address % 16) ms)) 0 ≡
+        cond unset 0 (suc (cond last 0 (run (address + 1) ms)))
+    by true last e more = refl
+    by false true e more =
+        let none : 15 - address % 16 ≡ 0 = omega (arith, eqb-true ((address + 1) % 16) 0 e) in
+        rw none refl
+    by false false e more =
+        let next : 15 - address % 16 ≡ 16 - (address + 1) % 16 = omega (arith, eqb-false ((address + 1) % 16) 0 e) in
+        rw (next, more) (omega arith)

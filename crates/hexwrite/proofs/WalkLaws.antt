@@ -6,7 +6,7 @@ use native.Mathlib.Omega.{arith}
 use lib.ListN.{length, take, drop, drop_of_length-le, length-drop}
 use lib.Seq.{drop-drop}
 use Rattle.hexline.specs.Line.{line_of}
-use Rattle.hexwrite.specs.Writer.{run, records_from, text_of}
+use Rattle.hexwrite.specs.Writer.{run, records_from, rest, text_of}
 use Rattle.hexwrite.proofs.RunLaws.{run_within}
 
 marks_none : (done address : ℕ) (image : List ℕ) → records_from done address image [] ≡ []
@@ -45,10 +45,6 @@ unfolding records_from
 clear_first address [] marks e = refl
 clear_first address (b ∷ bs) [] e = sym (marks_none 0 (address + 1) bs)
 clear_first address (b ∷ bs) (m ∷ ms) e = rw e
-
--- what is left to write from a place on
-abbrev pub rest : (image marks : List ℕ) → ℕ → List ℕ
-rest image marks at = records_from 0 at (drop at image) (drop at marks)
 
 pub text_rest : (image marks : List ℕ) → text_of image marks ≡ rest image marks 0 ++ line_of 1 0 []
 unfolding text_of

@@ -1,6 +1,6 @@
 -- "Our writer makes, rising, one record per unbroken run of set bytes, cut at addresses divisible by 16, in upper case with LF, then the type 01
 -- record at address 0."
-use Rattle.std.specs.Prelude.{ℕ, zero, suc, ◌+◌, ◌-◌, ◌%◌, cond, ◌&&◌, List, [], ◌∷◌, ◌++◌, eqb, length, take}
+use Rattle.std.specs.Prelude.{ℕ, zero, suc, ◌+◌, ◌-◌, ◌%◌, cond, ◌&&◌, List, [], ◌∷◌, ◌++◌, eqb, length, take, drop}
 use Rattle.fields.specs.Written.{Written, told, written}
 use Rattle.hexline.specs.Line.{line_of}
 
@@ -22,6 +22,10 @@ records_from done address (b ∷ bs) [] = []
 records_from (suc done) address (b ∷ bs) (m ∷ ms) = records_from done (address + 1) bs ms
 records_from zero address (b ∷ bs) (m ∷ ms) =
     run_line (run address (m ∷ ms)) address (b ∷ bs) ++ records_from (run address (m ∷ ms) - 1) (address + 1) bs ms
+
+-- what is left to write from a place on
+abbrev pub rest : (image marks : List ℕ) → ℕ → List ℕ
+rest image marks at = records_from 0 at (drop at image) (drop at marks)
 
 unfoldable pub text_of : (image marks : List ℕ) → List ℕ
 text_of image marks = records_from 0 0 image marks ++ line_of 1 0 []

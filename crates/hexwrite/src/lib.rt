@@ -3,5 +3,5 @@
 
 // All records, into a lent buffer.
 pub mod write;
-// The run of set bytes at an address.
-mod run;
+// The runs of set bytes.
+mod runs;

@@ -1,69 +1,70 @@
 -- Each line is laid behind what is written, and the last one behind all records.
-use Rattle.std.proofs.Common.{◌+◌, ◌≤◌, [], ◌++◌, length, take, drop, refl, sym, ap, ◌∙◌, append_assoc, arith}
+use Rattle.std.proofs.Common.{◌≡◌, ◌+◌, ◌≤◌, [], ◌++◌, length, take, drop, refl, sym, ap, ◌∙◌, append_assoc, arith, rules}
 use Rattle.fields.specs.Lay.{laid}
 use Rattle.fields.proofs.LaidLaws.{laid_next, laid_whole}
 use Rattle.hexline.specs.Line.{line_of}
-use Rattle.hexwrite.specs.Writer.{text_of}
-use Rattle.hexwrite.proofs.LineLaws.{line_length, run_length, run_holds, end_holds}
-use Rattle.hexwrite.proofs.WalkLaws.{rest, rest_clear, rest_none, rest_run, text_rest}
+use Rattle.hexwrite.specs.Writer.{rest, text_of}
+use Rattle.hexwrite.proofs.LineLaws.{run_length, run_holds, end_holds}
+use Rattle.hexwrite.proofs.WalkLaws.{text_rest}
 use Rattle.hexwrite.proofs.write.write_records.Goals as goal
 
-pub loop-at-init : goal.loop-at-init
-loop-at-init c =
-    let args = c.args in
-    (omega arith, omega arith, refl, sym (ap (laid args.buffer.now 0) (text_rest args.image.now args.marks.now)))
+pub loop-run-init : goal.loop-run-init
+loop-run-init c =
+    let marks = c.args.marks.now in
+    let at : c.into_iter-run-iterator.result.at ≡ 0 = cc in
+    let same : c.into_iter-run-iterator.result.marks.now ≡ marks = cc in
+    record {
+      can = tt;
+      same = same;
+      inside = omega arith;
+      few = omega arith;
+      long = refl;
+      whole = rw at (sym (ap (laid c.args.buffer.now 0) (text_rest c.args.image.now marks)));
+    }
 
-pub loop-at-preserved-then-count-eq0 : goal.loop-at-preserved-then-count-eq0
-loop-at-preserved-then-count-eq0 c =
-    let l = c.loop-at in
-    let on = rest_clear c.args.image.now c.args.marks.now l.at (omega arith) in
-    (omega arith, omega arith, l.invariant.2, rw on at l.invariant.3)
-
-pub lay_line-place-requires-clause-length_in_bounds : goal.lay_line-place-requires-clause-length_in_bounds
-lay_line-place-requires-clause-length_in_bounds c =
-    let line = run_holds c.args.image.now c.loop-at.at c.run-count.result (omega arith) (omega arith) c.data_line-line.ensures in
-    line.within
-
-pub lay_line-place-requires-clause-length_bound : goal.lay_line-place-requires-clause-length_bound
-lay_line-place-requires-clause-length_bound c =
+pub overflow_add-place : goal.overflow_add-place
+overflow_add-place c =
     let image = c.args.image.now in
-    let size = run_length image c.loop-at.at c.run-count.result (omega arith) in
-    let line = run_holds image c.loop-at.at c.run-count.result (omega arith) (omega arith) c.data_line-line.ensures in
-    omega (arith, line.size)
+    let run = c.in-Some.run' in
+    let step = rw c.loop-run.invariant.same at c.in-Some.ensures.steps in
+    let next = step.1 in
+    let long : length image ≡ 256 = search rules in
+    let inside : run.address + run.count ≤ length image = omega (arith, next.ends, next.inside) in
+    let line = run_holds image run.address run.count inside next.few c.data_line-line.ensures in
+    omega (arith, line.size, run_length image run.address run.count inside, next.few)
 
-pub loop-at-preserved : goal.loop-at-preserved
-loop-at-preserved c =
-    let l = c.loop-at in
-    let run = c.run-count in
+pub loop-run-preserved : goal.loop-run-preserved
+loop-run-preserved c =
     let image = c.args.image.now in
     let marks = c.args.marks.now in
-    let inside : l.at + run.result ≤ length image = omega (arith, c.requires.image_len) in
-    let line = run_holds image l.at run.result inside (omega arith) c.data_line-line.ensures in
-    let size = run_length image l.at run.result inside in
-    let turn = rest_run image marks l.at (sym run.ensures.value) (omega arith) (omega arith) in
-    let left = rest image marks (l.at + run.result) ++ line_of 1 0 [] in (
-      omega arith,
-      omega (arith, c.lay_line-place.ensures.value, line.size),
-      c.lay_line-place.auto.buffer ∙ l.invariant.2,
-      rw (c.lay_line-place.ensures.buffer_after, c.lay_line-place.ensures.value, line.whole)
-          (laid_next l.buffer l.place (line_of 0 l.at (take run.result (drop l.at image))) left line.size
-          ∙ rw (turn, append_assoc) at l.invariant.3),
-    )
-
-pub lay_line-requires-clause-length_in_bounds : goal.lay_line-requires-clause-length_in_bounds
-lay_line-requires-clause-length_in_bounds c = let line = end_holds c.end_line-last.ensures in line.within
-
-pub lay_line-requires-clause-length_bound : goal.lay_line-requires-clause-length_bound
-lay_line-requires-clause-length_bound c =
-    let line = end_holds c.end_line-last.ensures in
-    omega (arith, line.size, line_length 1 0 [])
+    let l = c.loop-run in
+    let run = c.in-Some.run' in
+    let step = rw l.invariant.same at c.in-Some.ensures.steps in
+    let next = step.1 in
+    let long : length image ≡ 256 = search rules in
+    let inside : run.address + run.count ≤ length image = omega (arith, next.ends, next.inside) in
+    let size = run_length image run.address run.count inside in
+    let line = run_holds image run.address run.count inside next.few c.data_line-line.ensures in
+    let left = rest image marks c.next.new.self.at ++ line_of 1 0 [] in
+    record {
+      can = tt;
+      same = step.0;
+      inside = next.inside;
+      few = omega (arith, next.here, next.some, next.ends, line.size, size);
+      long = c.lay.auto.buffer ∙ l.invariant.long;
+      whole =
+          rw (c.lay.ensures, c.as_bytes.ensures, line.whole)
+          (laid_next l.buffer l.place (line_of 0 run.address (take run.count (drop run.address image))) left line.size
+          ∙ rw (next.left image long, append_assoc) at l.invariant.whole);
+    }
 
 pub returns : goal.returns
 returns c =
-    let l = c.loop-at in
     let image = c.args.image.now in
     let marks = c.args.marks.now in
-    let line = end_holds c.end_line-last.ensures in
-    let none = rest_none image marks l.at (omega arith) in
-    rw (c.lay_line.ensures.buffer_after, line.whole)
-    (rw none at l.invariant.3 ∙ laid_whole c.args.buffer.now (text_of image marks) (omega arith))
+    let l = c.loop-run in
+    let step = rw l.invariant.same at c.in-None.ensures.steps in
+    let long : length image ≡ 256 = search rules in
+    let line = end_holds c.end_line.ensures in
+    rw (c.lay-2.ensures, c.as_bytes-2.ensures, line.whole)
+    (rw (step.1 image long) at l.invariant.whole ∙ laid_whole c.args.buffer.now (text_of image marks) (omega arith))
