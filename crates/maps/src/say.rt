@@ -1,49 +1,27 @@
-// What maps prints.
-ghost use Rattle.std.specs.Prelude.{◌≤◌};
-
-use labels::pass::{MapAnswer, Mapped};
+// What maps prints. Whether it was written is not asked: what is missing differs from what the gate expects.
+use labels::pass::Refusal;
 use labels::verdict::verdict;
-use program::print::{line, text};
+use program::print::text;
 use std::rt::Stdout;
 use table::labels::Labels;
-use text::line::Line;
 
 pub fn unread(out: Stdout, i: usize) {
-    let said = Line::empty()
-        .text(b"not read: argument ")
-        .decimal(i)
-        .text(b"\n");
-    line(out, said);
+    let _ = println!(out; "not read: argument {i}");
 }
 
-pub fn mapped(out: Stdout, mapped: Mapped)
-    requires { mapped.labels.count ≤ 64 }
-{
-    let answer = mapped.answer;
+pub fn mapped(out: Stdout, answer: Result<Labels, Refusal>) {
     match answer {
-        MapAnswer::Done => labels(out, mapped.labels),
-        MapAnswer::Refused(refusal) => line(out, verdict(refusal)),
+        Ok(labels) => print(out, &labels),
+        Err(refusal) => text(out, verdict(refusal).as_bytes()),
     }
 }
 
-fn labels(out: Stdout, labels: Labels)
-    requires { labels.count ≤ 64 }
-{
-    let count = labels.count;
-    let places = labels.places;
-    let lengths = labels.lengths;
-    let addresses = labels.addresses;
+fn print(out: Stdout, labels: &Labels) {
     text(out, b"mapped");
-    let mut i: usize = 0;
-    while i < count {
-        label(out, places[i], lengths[i], addresses[i]);
-        i += 1;
+    let names = labels.places.iter().zip(&labels.lengths);
+    let entries = names.zip(&labels.addresses).take(labels.count);
+    for ((place, length), address) in entries {
+        let _ = print!(out; " {place} {length} {address}");
     }
     text(out, b"\n");
-}
-
-fn label(out: Stdout, place: u16, length: u16, address: u8) {
-    let begun = Line::empty().text(b" ").decimal(place as usize);
-    let longer = begun.text(b" ").decimal(length as usize);
-    line(out, longer.text(b" ").decimal(address as usize));
 }

@@ -7,4 +7,4 @@ use Rattle.nanolabels.proofs.map.Goals as goal
 pub print-requires-clause-inside : goal.print-requires-clause-inside
 print-requires-clause-inside c =
     let source = c.args.source.now in
-    subst (Inside source) (sym (ap (λ m. m.labels) c.map_labels-mapped.ensures.result_value)) (names_inside source)
+    subst (Inside source) (sym (ap (λ m. m.labels) c.in-Ok.ensures.result_value)) (names_inside source)
