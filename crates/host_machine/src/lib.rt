@@ -7,6 +7,8 @@ pub mod load;
 pub mod run;
 pub mod step;
 pub mod transfer;
+// The machine that lies in a record.
+mod held;
 // The version of the record.
 pub mod version;
 

@@ -4,22 +4,17 @@ ghost use Rattle.record.specs.Record.{is_record};
 ghost use Rattle.host_machine.specs.Machine.{load_from, loaded};
 
 use crate::NONE;
+use crate::held::{held, tell};
 use answers::number::load_number;
-use record::record::{is_record, read, write};
 
 pub fn load(machine: &mut [u8], program: &[u8], start: u8, values: &mut [usize; 2]) -> usize
     ensures machine_after { loaded result values.new machine.new
         ≡ load_from machine.old program.now start values.old }
     ensures machine_after_2 { is_record machine.old ≡ true → is_record machine.new ≡ true }
 {
-    if !is_record(machine) {
+    let Some(found) = held(machine) else {
         return NONE;
-    }
-    let outcome = read(machine).load(program, start);
-    let answer = outcome.answer;
-    let after = outcome.machine;
-    let number = load_number(answer);
-    write(after, machine);
-    *values = [number.first, number.second];
-    number.number
+    };
+    let loaded = found.load(program, start);
+    tell(loaded.machine, load_number(loaded.answer), machine, values)
 }

@@ -4,8 +4,8 @@ ghost use Rattle.record.specs.Record.{is_record};
 ghost use Rattle.host_machine.specs.Machine.{moved, step_from};
 
 use crate::NONE;
+use crate::held::{held, tell};
 use answers::number::step_number;
-use record::record::{is_record, read, write};
 
 pub fn step(
     machine: &mut [u8],
@@ -19,16 +19,16 @@ pub fn step(
         ≡ step_from machine.old input.now place.old output.old written.old values.old }
     ensures machine_after { is_record machine.old ≡ true → is_record machine.new ≡ true }
 {
-    if !is_record(machine) {
+    let Some(found) = held(machine) else {
         return NONE;
-    }
-    let outcome = read(machine).step(input, *place, output, *written);
-    let answer = outcome.answer;
-    let after = outcome.machine;
-    let number = step_number(answer);
-    write(after, machine);
+    };
+    let outcome = found.step(input, *place, output, *written);
     *place = outcome.place;
     *written = outcome.written;
-    *values = [number.first, number.second];
-    number.number
+    tell(
+        outcome.machine,
+        step_number(outcome.answer),
+        machine,
+        values,
+    )
 }

@@ -4,8 +4,8 @@ ghost use Rattle.record.specs.Record.{is_record};
 ghost use Rattle.host_machine.specs.Machine.{kept, transfer_from};
 
 use crate::NONE;
+use crate::held::{held, put};
 use answers::number::transfer_number;
-use record::record::{is_record, read, write};
 
 // Image and marks are looked at before the machine: 19 comes before 90.
 pub fn transfer(machine: &mut [u8], image: &[u8], marks: &[u8]) -> usize
@@ -13,19 +13,13 @@ pub fn transfer(machine: &mut [u8], image: &[u8], marks: &[u8]) -> usize
         ≡ transfer_from machine.old image.now marks.now }
     ensures machine_after_2 { is_record machine.old ≡ true → is_record machine.new ≡ true }
 {
-    if image.len() != 256 {
+    if image.len() != 256 || marks.len() != 256 {
         return 19;
     }
-    if marks.len() != 256 {
-        return 19;
-    }
-    if !is_record(machine) {
+    let Some(found) = held(machine) else {
         return NONE;
-    }
-    let outcome = read(machine).transfer(image, marks);
-    let answer = outcome.answer;
-    let after = outcome.machine;
-    let number = transfer_number(answer);
-    write(after, machine);
-    number.number
+    };
+    let transferred = found.transfer(image, marks);
+    put(transferred.machine, machine);
+    transfer_number(transferred.answer).number
 }
