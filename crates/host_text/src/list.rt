@@ -5,8 +5,8 @@ ghost use Rattle.answer_number.specs.Texted.{texted};
 ghost use Rattle.listing.specs.Numbers.{list_number};
 ghost use Rattle.host_text.specs.Text.{list_from};
 
-use answer_number::Numbered;
-use listing::listing::ListAnswer;
+use answer_number::{Numbered, numbers, with_value};
+use listing::listing::ListRefusal;
 
 pub fn list(program: &[u8], start: u8, text: &mut [u8], values: &mut [usize; 2]) -> usize
     ensures { texted result values.new text.new ≡ list_from program.now start text.old }
@@ -16,24 +16,12 @@ pub fn list(program: &[u8], start: u8, text: &mut [u8], values: &mut [usize; 2])
     number.number
 }
 
-fn list_number(answer: ListAnswer) -> Numbered
+fn list_number(answer: Result<usize, ListRefusal>) -> Numbered
     ensures { result ≡ numbered (list_number answer) }
 {
     match answer {
-        ListAnswer::Listed(length) => Numbered {
-            number: 0,
-            first: length,
-            second: 0,
-        },
-        ListAnswer::TooLong { length, start } => Numbered {
-            number: 11,
-            first: length,
-            second: start as usize,
-        },
-        ListAnswer::NoRoom(needed) => Numbered {
-            number: 14,
-            first: needed,
-            second: 0,
-        },
+        Ok(length) => with_value(0, length),
+        Err(ListRefusal::TooLong { length, start }) => numbers(11, length, usize::from(start)),
+        Err(ListRefusal::NoRoom(needed)) => with_value(14, needed),
     }
 }

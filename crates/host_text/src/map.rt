@@ -1,11 +1,12 @@
 // The labels of a source.
 ghost use Rattle.std.specs.Prelude.{◌≡◌};
 ghost use Rattle.answer_number.specs.Numbered.{numbered};
-ghost use Rattle.labels.specs.Numbers.{map_number, refusal_number};
+ghost use Rattle.labels.specs.Numbers.{refusal_number};
 ghost use Rattle.host_text.specs.Text.{map_from, mapped};
 
 use answer_number::{Numbered, with_value};
-use labels::pass::{MapAnswer, Refusal, map_labels};
+use labels::pass::{Refusal, map_labels};
+use table::labels::Labels;
 
 // The labels in the order of their first appearance: of each the place and the length of its name in the source, and its address.
 pub fn labels(
@@ -19,28 +20,16 @@ pub fn labels(
     ensures { mapped result values.new count.new places.new lengths.new addresses.new
         ≡ map_from source.now }
 {
-    let found = map_labels(source);
-    let answer = found.answer;
-    let labels = found.labels;
-    let number = map_number(answer);
-    let at = labels.places;
-    let long = labels.lengths;
-    let to = labels.addresses;
+    let (labels, number) = match map_labels(source) {
+        Ok(labels) => (labels, with_value(0, 0)),
+        Err(refusal) => (Labels::empty(), refusal_number(refusal)),
+    };
     *count = labels.count;
-    *places = at;
-    *lengths = long;
-    *addresses = to;
+    places.copy_from_slice(&labels.places);
+    lengths.copy_from_slice(&labels.lengths);
+    addresses.copy_from_slice(&labels.addresses);
     *values = [number.first, number.second];
     number.number
-}
-
-fn map_number(answer: MapAnswer) -> Numbered
-    ensures { result ≡ numbered (map_number answer) }
-{
-    match answer {
-        MapAnswer::Done => with_value(0, 0),
-        MapAnswer::Refused(refusal) => refusal_number(refusal),
-    }
 }
 
 fn refusal_number(refusal: Refusal) -> Numbered
