@@ -39,7 +39,7 @@ pub fn encode(op: Op, operands: Operands) -> Result<Encoded, EncodeRefusal>
         return Err(EncodeRefusal::NoSuchRegister);
     }
     Ok(Encoded {
-        bytes: [op.byte(), operands.second_byte(), operands.third_byte()],
+        bytes: [u8::from(op), operands.second_byte(), operands.third_byte()],
         length: op.instruction_len(),
     })
 }

@@ -57,7 +57,7 @@ fn opcode_answer(value: u8) -> [u8; 9]
     let [a, b, c, d, e]: [u8; 5] = stretch(name, 0);
     [
         1,
-        op.byte(),
+        u8::from(op),
         op.instruction_len(),
         name.len() as u8,
         a,
@@ -72,7 +72,7 @@ fn name_answer(text: &[u8]) -> [u8; 2]
     ensures { result ≡ name_answer text.now }
 {
     match from_name(text) {
-        Some(op) => [1, op.byte()],
+        Some(op) => [1, u8::from(op)],
         None => [0; 2],
     }
 }

@@ -96,10 +96,12 @@ impl Op {
             _ => None,
         }
     }
+}
 
-    pub fn byte(self) -> u8
-        ensures { result ≡ byte_of self }
-    {
-        self as u8
+impl From<Op> for u8 {
+    ghost from_gives = { λ op byte. byte ≡ byte_of op };
+
+    fn from(op: Op) -> u8 {
+        op as u8
     }
 }
