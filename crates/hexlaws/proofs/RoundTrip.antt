@@ -20,9 +20,9 @@ use Rattle.text.proofs.WordLaws.{Above}
 use Rattle.hexline.specs.Line.{word_of, line_of}
 use Rattle.hexline.specs.Spelling.{digits_of}
 use Rattle.hexread.specs.File.{Sheet, sheet, filled, placed, turn, accepted, told_by, lines_from, reading_of}
-use Rattle.hexwrite.specs.Writer.{run, text_of}
+use Rattle.hexwrite.specs.Writer.{rest, run, text_of}
 use Rattle.hexwrite.proofs.RunLaws.{run_short, run_within, run_set, run_unset}
-use Rattle.hexwrite.proofs.WalkLaws.{rest, text_rest, rest_none, rest_clear, rest_run}
+use Rattle.hexwrite.proofs.WalkLaws.{text_rest, rest_none, rest_clear, rest_run}
 use Rattle.hexlaws.specs.Back.{ones_of, back_of}
 use Rattle.hexlaws.proofs.RowBack.{word_solid, word_row, end_row}
 use Rattle.hexlaws.proofs.Placing.{Fits}

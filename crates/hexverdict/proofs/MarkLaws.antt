@@ -1,26 +1,15 @@
--- How many bytes are set from a place on, by the mark there.
-use mathlib.Core.Path.{◌≡◌}
-use mathlib.Core.Logic.{◌≢◌}
-use mathlib.Core.List.{List}
-use Prim.Native.Nat.{ℕ, ◌+◌, ◌≤◌, ◌<◌}
-use native.Mathlib.Numerals.{add-one}
-use native.Mathlib.Omega.{arith}
-use borrow.Author.Tests.{eq-eqb, ne_eqb}
-use lib.ListN.{length, get_or, drop, drop_of_length-le}
-use lib.Seq.{drop-cons}
+-- The marks that are not 0 are those that the definition counts.
+use Rattle.std.proofs.Common.{◌≡◌, ℕ, ◌+◌, Bool, true, false, cond, not, eqb, List, count_by, refl, sym, zero-add}
+use Rattle.std.proofs.lemmas.List.Recursion.{is_count_by}
 use Rattle.scan.specs.declared.class.Class.TheVariants.{IsNot}
 use Rattle.scan.specs.Class.{passes}
 use Rattle.scan.specs.Scan.{count}
 
-pub at_end : (marks : List ℕ) (i : ℕ) → length marks ≤ i → count (IsNot 0) (drop i marks) ≡ 0
-unfolding count
-at_end marks i h = rw (drop_of_length-le marks h)
+one_more : (b : Bool) (n : ℕ) → cond b 1 0 + n ≡ cond b (1 + n) n
+one_more true n = refl
+one_more false n = zero-add n
 
-module _ (marks : List ℕ) (i : ℕ) (h : i < length marks) where
-  pub at_set : get_or marks i 0 ≢ 0 → count (IsNot 0) (drop i marks) ≡ 1 + count (IsNot 0) (drop (i + 1) marks)
-  unfolding count passes
-  at_set set = rw (add-one i, drop-cons marks i 0 h, ne_eqb _ _ set)
-
-  pub at_clear : get_or marks i 0 ≡ 0 → count (IsNot 0) (drop i marks) ≡ count (IsNot 0) (drop (i + 1) marks)
-  unfolding count passes
-  at_clear clear = rw (add-one i, drop-cons marks i 0 h, eq-eqb _ _ clear) (omega arith)
+pub counted : (marks : List ℕ) → count_by (λ m. not (eqb m 0)) marks ≡ count (IsNot 0) marks
+unfolding count passes
+counted marks =
+    sym (is_count_by (count (IsNot 0)) (λ m. not (eqb m 0)) refl (λ m ms. one_more (not (eqb m 0)) (count (IsNot 0) ms)) marks)

@@ -4,8 +4,7 @@ use mathlib.Core.List.{◌++◌}
 use Prim.Native.Nat.{ℕ, ◌≤◌, ◌<◌}
 use native.Mathlib.Omega.{arith}
 use lib.ListN.{length, length-append, take}
-use Rattle.hexread.specs.declared.answer.ReadAnswer.{ReadAnswer}
-use Rattle.hexread.specs.declared.answer.ReadAnswer.TheVariants.{Done, Refused}
+use Rattle.std.proofs.Common.{Result, Ok, Err}
 use Rattle.hexread.specs.declared.answer.Refusal.{Refusal}
 use Rattle.hexread.specs.declared.answer.Refusal.TheVariants.{NoImage, Shape, Checksum, OtherType, PastEnd, SetTwice, NoEnd, TextAfter}
 use Rattle.hexread.specs.Numbers.{refusal_number, read_number}
@@ -32,9 +31,9 @@ RefusalInRange (SetTwice line) = Held line
 RefusalInRange NoEnd = Unit
 RefusalInRange TextAfter = Unit
 
-abbrev pub InRange : ReadAnswer → Type 0
-InRange Done = Unit
-InRange (Refused refusal) = RefusalInRange refusal
+abbrev pub InRange : Result Unit Refusal → Type 0
+InRange (Ok done) = Unit
+InRange (Err refusal) = RefusalInRange refusal
 
 refusal_few : (n : ℕ) → n < 100 → length (refusal n) ≤ 10
 refusal_few n h = omega (arith, few_digits 1 n h)
@@ -58,16 +57,16 @@ refused_few (SetTwice line) count h = with_line 24 line (omega arith) h
 refused_few NoEnd count h = omega (arith, refusal_few 25 (omega arith))
 refused_few TextAfter count h = omega (arith, refusal_few 26 (omega arith))
 
-said_few : (a : ReadAnswer) (count : ℕ) → InRange a → Held count → length (said (read_number a) count) ≤ 36
-said_few Done count h hc =
+said_few : (a : Result Unit Refusal) (count : ℕ) → InRange a → Held count → length (said (read_number a) count) ≤ 36
+said_few (Ok done) count h hc =
     omega (
       arith,
       length-append (codes "read " ++ decimal count) (codes " bytes"),
       few_digits 19 count (omega arith),
     )
-said_few (Refused r) count h hc = refused_few r count h
+said_few (Err r) count h hc = refused_few r count h
 
-module _ (a : ReadAnswer) (count : ℕ) (h : InRange a) (hc : Held count) where
+module _ (a : Result Unit Refusal) (count : ℕ) (h : InRange a) (hc : Held count) where
   pub verdict_fits : length (verdict_of (read_number a) count) ≤ 64
   unfolding verdict_of
   verdict_fits = omega (arith, length-append (said (read_number a) count) line_end, said_few a count h hc)

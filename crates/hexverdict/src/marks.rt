@@ -7,13 +7,5 @@ ghost use Rattle.scan.specs.Scan.{count};
 pub fn set_bytes(marks: &[u8]) -> usize
     ensures { result ≡ count (IsNot 0) marks.now }
 {
-    let mut set: usize = 0;
-    let mut i: usize = 0;
-    while i < marks.len() {
-        if marks[i] != 0 {
-            set += 1;
-        }
-        i += 1;
-    }
-    set
+    marks.iter().filter(|mark| **mark != 0).count()
 }

@@ -5,23 +5,25 @@ ghost use Rattle.text.specs.Text.{codes, line_end};
 ghost use Rattle.hexread.specs.Numbers.{read_number, refusal_number};
 ghost use Rattle.hexverdict.specs.Verdict.{refusal, verdict_of};
 
-use hexread::answer::{ReadAnswer, Refusal};
+use hexread::answer::Refusal;
 use text::line::Line;
 
 // What a reading answered, and how many bytes it set.
-pub fn verdict(answer: ReadAnswer, count: usize) -> Line
+#[tactic(auto, unfolding(crate::specs::Verdict::verdict_of))]
+pub fn verdict(answer: Result<(), Refusal>, count: usize) -> Line
     ensures { result ≡ lined (verdict_of (read_number answer) count) }
 {
     match answer {
-        ReadAnswer::Done => Line::empty()
+        Ok(()) => Line::empty()
             .text(b"read ")
             .decimal(count)
             .text(b" bytes\n"),
-        ReadAnswer::Refused(refusal) => refused(refusal),
+        Err(refusal) => refused(refusal),
     }
 }
 
 // The same for every count: a refusal sets nothing.
+#[tactic(auto, unfolding(crate::specs::Verdict::verdict_of))]
 fn refused(refusal: Refusal) -> Line
     ensures { (count : ℕ) → result ≡ lined (verdict_of (refusal_number refusal) count) }
 {

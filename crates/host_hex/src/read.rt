@@ -5,7 +5,7 @@ ghost use Rattle.hexread.specs.Numbers.{read_number, refusal_number};
 ghost use Rattle.host_hex.specs.Hex.{read_from, taken};
 
 use answer_number::{Numbered, with_value};
-use hexread::answer::{ReadAnswer, Refusal};
+use hexread::answer::Refusal;
 
 pub fn read(text: &[u8], image: &mut [u8], marks: &mut [u8], values: &mut [usize; 2]) -> usize
     ensures { taken result values.new image.new marks.new
@@ -16,12 +16,12 @@ pub fn read(text: &[u8], image: &mut [u8], marks: &mut [u8], values: &mut [usize
     number.number
 }
 
-fn read_number(answer: ReadAnswer) -> Numbered
+fn read_number(answer: Result<(), Refusal>) -> Numbered
     ensures { result ≡ numbered (read_number answer) }
 {
     match answer {
-        ReadAnswer::Done => with_value(0, 0),
-        ReadAnswer::Refused(refusal) => refusal_number(refusal),
+        Ok(()) => with_value(0, 0),
+        Err(refusal) => refusal_number(refusal),
     }
 }
 

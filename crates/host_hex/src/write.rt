@@ -6,7 +6,7 @@ ghost use Rattle.hexwrite.specs.Numbers.{write_number};
 ghost use Rattle.host_hex.specs.Hex.{write_from};
 
 use answer_number::{Numbered, with_value};
-use hexwrite::write::WriteAnswer;
+use hexwrite::write::WriteRefusal;
 
 pub fn write(image: &[u8], marks: &[u8], text: &mut [u8], values: &mut [usize; 2]) -> usize
     ensures { texted result values.new text.new
@@ -17,12 +17,12 @@ pub fn write(image: &[u8], marks: &[u8], text: &mut [u8], values: &mut [usize; 2
     wrote.number
 }
 
-fn write_number(answer: WriteAnswer) -> Numbered
+fn write_number(answer: Result<usize, WriteRefusal>) -> Numbered
     ensures { result ≡ numbered (write_number answer) }
 {
     match answer {
-        WriteAnswer::Wrote(length) => with_value(0, length),
-        WriteAnswer::NoImage => with_value(19, 0),
-        WriteAnswer::NoRoom(needed) => with_value(14, needed),
+        Ok(length) => with_value(0, length),
+        Err(WriteRefusal::NoImage) => with_value(19, 0),
+        Err(WriteRefusal::NoRoom(needed)) => with_value(14, needed),
     }
 }
