@@ -14,9 +14,9 @@ pub fn numbers(number: usize, first: usize, second: usize) -> Numbered
     ensures { result ≡ record { number = number; first = first; second = second } }
 {
     Numbered {
-        number: number,
-        first: first,
-        second: second,
+        number,
+        first,
+        second,
     }
 }
 

@@ -1,4 +1,3 @@
-pub mod Fill
 pub mod ReadLaws
 pub mod LayLaws
 pub mod LaidLaws

@@ -1,7 +1,7 @@
 -- Laws of the bytes at a place.
 use mathlib.Core.Path.{◌≡◌, refl, sym, ◌∙◌, ap}
 use mathlib.Core.Bool.{Bool, true, false}
-use mathlib.Core.List.{List, [], ◌∷◌, ◌++◌}
+use mathlib.Core.List.{List, ◌∷◌, ◌++◌}
 use Prim.Native.Nat.{ℕ, zero, suc, min, ◌+◌, ◌*◌, ◌-◌, ◌≤◌, ◌<◌}
 use native.Mathlib.Nat.{add-zero}
 use native.Mathlib.Numerals.{add-one}
@@ -13,15 +13,6 @@ use Rattle.std.specs.List.{slice_range}
 use Rattle.std.proofs.lemmas.List.{drop-replicate, drop_min, get_or-drop, take_min}
 use borrow.Author.Tests.{le-leb, lt-leb, ltb-true, ltb-false}
 use Rattle.fields.specs.Read.{byte_at, word_at, stretch}
-
--- one byte more of a stretch stands at its end
-pub stretch_more :
-    (bytes : List ℕ) (at n : ℕ) → stretch bytes at (suc n) ≡ stretch bytes at n ++ (byte_at bytes (at + n) ∷ [])
-stretch_more bytes at zero = let here : at ≡ at + 0 = omega arith in ap (λ k. byte_at bytes k ∷ []) here
-stretch_more bytes at (suc n) =
-    let next : at + 1 + n ≡ at + suc n = omega arith in
-    ap (λ s. byte_at bytes at ∷ s)
-    (stretch_more bytes (at + 1) n ∙ ap (λ k. stretch bytes (at + 1) n ++ (byte_at bytes k ∷ [])) next)
 
 -- a stretch that the bytes have is a part of them
 pub stretch_part : (bytes : List ℕ) (at n : ℕ) → at + n ≤ length bytes → stretch bytes at n ≡ take n (drop at bytes)

@@ -10,6 +10,7 @@ use lib.Seq.{take_at, drop_at, take_all, drop-drop}
 use borrow.Author.Tests.{eqb-true, eq-eqb}
 use Rattle.byte.specs.Flags.{bit}
 use Rattle.fields.specs.Apart.{alike}
+use Rattle.fields.specs.Lay.{laid}
 use Rattle.fields.specs.Read.{byte_at, stretch}
 use Rattle.fields.proofs.ApartLaws.{alike_front, alike_taken}
 use Rattle.fields.proofs.ReadLaws.{stretch_part}
@@ -18,7 +19,7 @@ use Rattle.record.specs.Accepted.{Accepted}
 use Rattle.record.specs.Four.{four, four_at}
 use Rattle.record.specs.Held.{Held}
 use Rattle.record.specs.Record.{head_of, is_record, machine_of, record_of}
-use Rattle.record.proofs.RecordLaws.{length_record}
+use Rattle.record.proofs.RecordLaws.{laid_record, length_record}
 
 bit_read : (b : Bool) → eqb (bit b) 1 ≡ b
 bit_read true = refl
@@ -71,6 +72,15 @@ module _ (m : Machine) (held : Held m) where
       (eqb (alike (head_of (machine_of (record_of m))) (record_of m)) 24)
       ).1
       (eq-eqb (length (record_of m)) 296 long, eq-eqb _ 24 known)
+
+  -- what the code lays, part after part
+  pub parts_laid :
+      (start one two three head : List ℕ) → length start ≡ 296 → head ≡ head_of m → one ≡ laid start 0 head →
+      two ≡ laid one 24 m.registers → three ≡ laid two 40 m.memory → three ≡ record_of m
+  parts_laid start one two three head size first second third fourth =
+      fourth
+      ∙ ap (λ b. laid b 40 m.memory) (third ∙ ap (λ b. laid b 24 m.registers) (second ∙ ap (laid start 0) first))
+      ∙ laid_record m start held.registers held.memory size
 
 module _ (bytes : List ℕ) (is : is_record bytes ≡ true) where
   tested : (eqb (length bytes) 296 ≡ true) × (eqb (alike (head_of (machine_of bytes)) bytes) 24 ≡ true)

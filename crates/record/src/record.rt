@@ -1,12 +1,10 @@
 // The record of a machine: 296 bytes. What so many bytes hold is read whatever they are; whether they are a record at all is asked apart.
 ghost use Rattle.std.specs.Prelude.{true, cond, ◌≡◌, eqb, length};
-ghost use Rattle.fields.specs.Read.{stretch};
 ghost use Rattle.record.specs.Record.{head_of, is_record, machine_of, record_of};
 
 use crate::four::{four, four_at};
-use fields::apart::alike;
 use fields::lay::lay;
-use fields::read::byte_at;
+use fields::read::{byte_at, stretch};
 use nanocore::machine::Machine;
 
 pub const LENGTH: usize = 296;
@@ -16,11 +14,7 @@ pub const LENGTH: usize = 296;
 pub fn is_record(bytes: &[u8]) -> bool
     ensures { result ≡ is_record bytes.now }
 {
-    if bytes.len() != LENGTH {
-        return false;
-    }
-    let head = head(read(bytes));
-    alike(&head, bytes) == 24
+    bytes.len() == LENGTH && bytes.starts_with(&head(read(bytes)))
 }
 
 // The machine that the bytes hold. That they are as many as a record has is the caller's to ask, once for all of them.
@@ -28,11 +22,9 @@ pub fn read(bytes: &[u8]) -> Machine
     requires { length bytes.now ≡ 296 }
     ensures { result ≡ machine_of bytes.now }
 {
-    let registers = registers(bytes);
-    let memory = memory(bytes);
     Machine {
-        registers: registers,
-        memory: memory,
+        registers: stretch(bytes, 24),
+        memory: stretch(bytes, 40),
         pc: byte_at(bytes, 2),
         sp: byte_at(bytes, 3),
         flags: byte_at(bytes, 4),
@@ -40,32 +32,6 @@ pub fn read(bytes: &[u8]) -> Machine
         count: (four_at(bytes, 8) % 65536) as u16,
         limit: (four_at(bytes, 12) % 65536) as u16,
     }
-}
-
-fn registers(bytes: &[u8]) -> [u8; 16]
-    requires { length bytes.now ≡ 296 }
-    ensures { result ≡ stretch bytes.now 24 16 }
-{
-    let mut registers = [0u8; 16];
-    let mut i: usize = 0;
-    while i < 16 {
-        registers[i] = bytes[24 + i];
-        i += 1;
-    }
-    registers
-}
-
-fn memory(bytes: &[u8]) -> [u8; 256]
-    requires { length bytes.now ≡ 296 }
-    ensures { result ≡ stretch bytes.now 40 256 }
-{
-    let mut memory = [0u8; 256];
-    let mut i: usize = 0;
-    while i < 256 {
-        memory[i] = bytes[40 + i];
-        i += 1;
-    }
-    memory
 }
 
 // The record of the machine, where the bytes are as many as a record has; it is one that is_record knows.
@@ -76,27 +42,24 @@ pub fn write(machine: Machine, bytes: &mut [u8])
     if bytes.len() != LENGTH {
         return;
     }
-    let registers = machine.registers;
-    let memory = machine.memory;
-    let head = head(machine);
-    lay(bytes, 0, &head);
-    lay(bytes, 24, &registers);
-    lay(bytes, 40, &memory);
+    lay(bytes, 0, &head(machine));
+    lay(bytes, 24, &machine.registers);
+    lay(bytes, 40, &machine.memory);
 }
 
 // All before the registers.
 fn head(machine: Machine) -> [u8; 24]
     ensures { result ≡ head_of machine }
 {
-    let count = four(machine.count as u32);
-    let limit = four(machine.limit as u32);
+    let count = four(u32::from(machine.count));
+    let limit = four(u32::from(machine.limit));
     [
         1,
         1,
         machine.pc,
         machine.sp,
         machine.flags,
-        machine.halted as u8,
+        u8::from(machine.halted),
         0,
         0,
         count[0],

@@ -1,12 +1,14 @@
 -- The head that would be written is held to the bytes.
-use Rattle.std.proofs.Common.{◌∙◌, ap, eqb, eq-eqb}
-use Rattle.fields.specs.Apart.{alike}
-use Rattle.record.specs.Record.{head_of, is_record}
+use Rattle.std.proofs.Common.{◌∙◌, ap, eq-eqb}
+use Rattle.std.specs.List.{starts_with}
+use Rattle.std.proofs.Common.{eqb}
+use Rattle.fields.proofs.ApartLaws.{starts_alike}
+use Rattle.record.specs.Record.{head_of, is_record, machine_of}
 use Rattle.record.proofs.record.is_record.Goals as goal
 
-pub returns : goal.returns
+pub returns-then-bytes-eq-LENGTH : goal.returns-then-bytes-eq-LENGTH
 unfolding is_record
-returns c =
-    rw (eq-eqb _ _ c.if-bytes-ne-LENGTH.false)
-    (ap (λ n. eqb n 24)
-    (c.alike.ensures.value ∙ ap (λ h. alike h c.args.bytes.now) (c.head-head.ensures ∙ ap head_of c.read.ensures)))
+returns-then-bytes-eq-LENGTH c =
+    let bytes = c.args.bytes.now in
+    rw (eq-eqb _ _ c.if-bytes-eq-LENGTH.true)
+    (c.starts_with.ensures.value ∙ ap (starts_with eqb bytes) (c.head.ensures ∙ ap head_of c.read.ensures) ∙ starts_alike (head_of (machine_of bytes)) bytes)

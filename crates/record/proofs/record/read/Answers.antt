@@ -12,6 +12,6 @@ returns c =
       c.byte_at-3.ensures,
       c.byte_at-2.ensures,
       c.byte_at.ensures,
-      c.memory-memory.ensures,
-      c.registers-registers.ensures,
+      c.stretch-2.ensures,
+      c.stretch.ensures,
     )
