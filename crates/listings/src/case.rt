@@ -1,98 +1,59 @@
 // One call of the listing, and what it gave.
-ghost use Rattle.std.specs.Prelude.{◌≡◌, ◌<◌, length};
-
-use crate::say;
-use digits::unhex::{Unhexed, unhex};
-use listing::listing::{ListAnswer, list};
-use program::print;
+use digits::unhex::unhex;
+use listing::listing::{ListRefusal, list};
+use program::print::text;
+use std::fmt;
 use std::rt::Stdout;
 
 // What the buffer holds before: no byte of a text.
 pub const BEFORE: u8 = 0xA5;
 
+// The answer's number and values.
+#[derive(Drop)]
+struct Told(Result<usize, ListRefusal>);
+
+impl fmt::Display for Told {
+    fn fmt<W: fmt::Write>(&self, f: &mut fmt::Formatter<W>) -> fmt::Result {
+        match self.0 {
+            Ok(length) => write!(f, "0 {length}"),
+            Err(ListRefusal::TooLong { length, start }) => write!(f, "11 {length} {start}"),
+            Err(ListRefusal::NoRoom(needed)) => write!(f, "14 {needed}"),
+        }
+    }
+}
+
 // A case as it is written.
 pub fn read(out: Stdout, written: &[u8]) {
     let mut bytes = [0u8; 4096];
     match unhex(written, &mut bytes) {
-        Unhexed::Bytes(count) => take(out, &bytes[..count]),
-        Unhexed::Stopped(at) => say::line(out, b"no bytes"),
+        Ok(count) => take(out, &bytes[..count]),
+        Err(_) => {
+            let _ = println!(out; "no bytes");
+        }
     }
 }
 
 // The start, the room in two bytes, the higher first, and the program.
 fn take(out: Stdout, case: &[u8]) {
-    if case.len() < 3 {
-        say::line(out, b"no case");
+    let [start, high, low, program @ ..] = case else {
+        let _ = println!(out; "no case");
         return;
-    }
-    let room = wide(case[1]) * 256 + wide(case[2]);
-    run(out, &case[3..], case[0], room);
+    };
+    run(out, program, *start, u16::from_be_bytes([*high, *low]));
 }
 
-pub fn wide(byte: u8) -> usize
-    ensures { result < 256 }
-{
-    byte as usize
-}
-
-// The answer's number and values, the text, and whether the bytes behind it are as before.
-fn run(out: Stdout, program: &[u8], start: u8, room: usize) {
-    let mut space = filled();
-    let answer = list_into(program, start, &mut space, room);
-    let length = tell(out, answer);
-    print::first(out, &space, length);
-    if untouched(&space, length) {
-        say::line(out, b"rest untouched");
+// What is answered, the text, and whether the bytes behind it are as before. So much of the space is lent as there is.
+fn run(out: Stdout, program: &[u8], start: u8, room: u16) {
+    let mut space = [BEFORE; 4096];
+    let room = usize::from(room).min(space.len());
+    let answer = list(program, start, &mut space[..room]);
+    let _ = println!(out; "answer {}", Told(answer));
+    let (listed, rest) = space.split_at(answer.unwrap_or(0));
+    text(out, listed);
+    let touched = if rest.iter().all(|byte| *byte == BEFORE) {
+        "untouched"
     } else {
-        say::line(out, b"rest touched");
-    }
-}
-
-fn filled() -> [u8; 4096]
-    ensures { 4096 ≡ length result }
-{
-    [BEFORE; 4096]
-}
-
-// Lends so much of the space.
-fn list_into(program: &[u8], start: u8, space: &mut [u8], room: usize) -> ListAnswer {
-    if room >= space.len() {
-        return list(program, start, space);
-    }
-    list(program, start, &mut space[..room])
-}
-
-// Prints the answer and gives how long its text is.
-fn tell(out: Stdout, answer: ListAnswer) -> usize {
-    print::text(out, b"answer");
-    let mut written: usize = 0;
-    match answer {
-        ListAnswer::Listed(length) => {
-            say::number(out, 0);
-            say::number(out, length);
-            written = length;
-        },
-        ListAnswer::TooLong { length, start } => {
-            say::number(out, 11);
-            say::number(out, length);
-            say::number(out, start as usize);
-        },
-        ListAnswer::NoRoom(needed) => {
-            say::number(out, 14);
-            say::number(out, needed);
-        },
-    }
-    say::line(out, b"");
-    written
-}
-
-fn untouched(bytes: &[u8], from: usize) -> bool {
-    let mut i = from;
-    while i < bytes.len() {
-        if bytes[i] != BEFORE {
-            return false;
-        }
-        i += 1;
-    }
-    true
+        "touched"
+    };
+    let _ = println!(out; "rest {touched}");
 }

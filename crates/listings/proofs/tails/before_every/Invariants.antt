@@ -1,6 +1,0 @@
--- Each second byte once.
-use Rattle.std.proofs.Common.{◌-◌}
-use Rattle.listings.proofs.tails.before_every.Given as goal
-
-abbrev pub decreases-loop-i : goal.decreases-loop-i
-decreases-loop-i l = 256 - l.i
