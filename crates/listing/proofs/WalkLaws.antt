@@ -1,29 +1,24 @@
--- What is left to list of a program, from a place on.
-use mathlib.Core.Path.{◌≡◌, ◌∙◌}
-use mathlib.Core.List.{List, [], ◌++◌}
-use Prim.Native.Nat.{ℕ, ◌+◌, ◌≤◌, ◌<◌}
-use native.Mathlib.Omega.{arith}
-use lib.ListN.{length, drop}
+-- The lines of a listing, joined, are its text.
+use mathlib.Core.Path.{◌≡◌, refl, ap}
+use mathlib.Core.List.{List, [], ◌∷◌, ◌++◌}
+use Prim.Native.Nat.{ℕ, zero, suc, ◌+◌, ◌-◌}
 use Rattle.front.specs.Front.{front_of, size_of}
 use Rattle.front.specs.Line.{line_at}
-use Rattle.front.specs.Listed.{listed}
+use Rattle.front.specs.Listed.{lines_of, listed}
 use Rattle.front.specs.Walk.{walked}
-use Rattle.front.proofs.WalkLaws.{walk_none, walk_turn}
 
-abbrev pub rest : List ℕ → ℕ → ℕ → List ℕ
-rest program start at = walked line_at 0 (start + at) (drop at program)
+abbrev pub joined : List (List ℕ) → List ℕ
+joined [] = []
+joined (line ∷ lines) = line ++ joined lines
 
-pub rest_all : (program : List ℕ) (start : ℕ) → rest program start 0 ≡ listed program start
-rest_all program start = let here : start + 0 ≡ start = omega arith in rw here
+joined_walk :
+    (passed address : ℕ) (bytes : List ℕ) →
+    joined (walked (λ a bs. line_at a bs ∷ []) passed address bytes) ≡ walked line_at passed address bytes
+unfolding walked
+joined_walk passed address [] = refl
+joined_walk (suc passed) address (b ∷ bs) = joined_walk passed (address + 1) bs
+joined_walk zero address (b ∷ bs) =
+    ap (λ rest. line_at address (b ∷ bs) ++ rest) (joined_walk (size_of (front_of (b ∷ bs)) - 1) (address + 1) bs)
 
-pub rest_none : (program : List ℕ) (start at : ℕ) → length program ≤ at → rest program start at ≡ []
-rest_none program start at = walk_none line_at program (start + at) at
-
--- a line, and behind it what is left from the next one on
-pub rest_turn :
-    (program : List ℕ) (start at : ℕ) → at < length program → {next : ℕ} → next ≡ at + size_of (front_of (drop at program)) →
-    rest program start at ≡ line_at (start + at) (drop at program) ++ rest program start next
-rest_turn program start at h next =
-    let size = size_of (front_of (drop at program)) in
-    let behind : start + at + size ≡ start + (at + size) = omega arith in
-    rw next (walk_turn line_at program (start + at) at h ∙ rw behind)
+pub joined_lines : (program : List ℕ) (start : ℕ) → joined (lines_of program start) ≡ listed program start
+joined_lines program start = joined_walk 0 start program

@@ -6,7 +6,7 @@ ghost use Rattle.listing.specs.Listing.{listing_of};
 ghost use Rattle.listing.specs.Numbers.{list_number};
 
 use fields::lay::lay;
-use row::row::Row;
+use row::rows::Rows;
 
 // Why there is no listing: the program's length and its start, or the room that the text needs.
 #[derive(Clone, Copy, PartialEq, Eq, Debug)]
@@ -40,11 +40,8 @@ fn measure(program: &[u8], start: u8) -> usize
     ensures { result ≡ length (listed program.now start) }
 {
     let mut needed = 0;
-    let mut at = 0;
-    while at < program.len() {
-        let row = Row::of(program, start, at);
-        needed += row.line.length;
-        at = row.next;
+    for line in Rows::of(program, start) {
+        needed += line.as_bytes().len();
     }
     needed
 }
@@ -55,11 +52,9 @@ fn write(program: &[u8], start: u8, buffer: &mut [u8])
     ensures { buffer.new ≡ listed program.now start ++ drop (length (listed program.now start)) buffer.old }
 {
     let mut place = 0;
-    let mut at = 0;
-    while at < program.len() {
-        let row = Row::of(program, start, at);
-        lay(buffer, place, row.line.as_bytes());
-        place += row.line.length;
-        at = row.next;
+    for line in Rows::of(program, start) {
+        let text = line.as_bytes();
+        lay(buffer, place, text);
+        place += text.len();
     }
 }

@@ -5,3 +5,5 @@
 pub mod line;
 // The line at a place of the program.
 pub mod row;
+// The lines at all places.
+pub mod rows;

@@ -1,15 +1,21 @@
--- A line is measured, and what is left is from the next one on.
-use Rattle.std.proofs.Common.{ap, length, arith, length-append}
-use Rattle.row.proofs.RoomLaws.{line_whole}
-use Rattle.listing.proofs.WalkLaws.{rest_none, rest_turn}
+-- A line is measured, and what is left is what the next call gives; nothing wraps, since there is no more than fits.
+use Rattle.std.proofs.Common.{◌∙◌, ap, length, arith, length-append}
+use Rattle.row.specs.Left.{lines_left}
+use Rattle.listing.proofs.RoomLaws.{listing_fits}
+use Rattle.listing.proofs.WalkLaws.{joined, joined_lines}
 use Rattle.listing.proofs.listing.measure.Goals as goal
 
-pub loop-at-preserved : goal.loop-at-preserved
-loop-at-preserved c =
-    let l = c.loop-at in
-    let row = c.of-row in
-    let turn = rest_turn c.args.program.now c.args.start l.at c.loop-at-test.true row.ensures.next_value in
-    (omega arith, omega arith, omega (arith, simp length-append at (ap length turn), (line_whole _ _ row.ensures.line_value).size))
+pub loop-line-init : goal.loop-line-init
+loop-line-init c =
+    let all = ap lines_left c.into_iter-line-iterator.ensures.into_iter_gives ∙ c.of-line-items.ensures in
+    omega (arith, ap length (ap joined all ∙ joined_lines c.args.program.now c.args.start))
 
-pub returns : goal.returns
-returns c = omega (arith, ap length (rest_none c.args.program.now c.args.start c.loop-at.at c.loop-at-test.false))
+pub overflow_add-needed : goal.overflow_add-needed
+overflow_add-needed c =
+    omega (
+      arith,
+      ap length c.as_bytes.ensures,
+      simp length-append at (ap (λ lines. length (joined lines)) c.in-Some.ensures.steps),
+      c.loop-line.invariant,
+      listing_fits c.args.program.now c.args.start (omega arith),
+    )

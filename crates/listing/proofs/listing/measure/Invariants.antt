@@ -1,14 +1,9 @@
--- What is measured and the length of what is left make the whole length; a line has at most 64 bytes, and stands for
--- one byte at least.
-use Rattle.std.proofs.Common.{◌≡◌, ◌+◌, ◌*◌, ◌-◌, ◌≤◌, length}
+-- What is measured, and the length of what is left, make the whole length.
+use Rattle.std.proofs.Common.{◌≡◌, ◌+◌, length}
 use Rattle.front.specs.Listed.{listed}
-use Rattle.listing.proofs.WalkLaws.{rest}
+use Rattle.row.specs.Left.{lines_left}
+use Rattle.listing.proofs.WalkLaws.{joined}
 use Rattle.listing.proofs.listing.measure.Given as goal
 
-abbrev pub invariant-loop-at : goal.invariant-loop-at
-invariant-loop-at l =
-    (l.at ≤ length l.program) × (l.needed ≤ 64 * l.at) ×
-    (l.needed + length (rest l.program l.start l.at) ≡ length (listed l.program l.start))
-
-abbrev pub decreases-loop-at : goal.decreases-loop-at
-decreases-loop-at l = length l.program - l.at
+abbrev pub invariant-loop-line : goal.invariant-loop-line
+invariant-loop-line l = l.needed + length (joined (lines_left l.line-iterator)) ≡ length (listed l.program l.start)

@@ -1,36 +1,31 @@
 -- A line is laid whole, and what is left is laid behind it.
-use Rattle.std.proofs.Common.{◌≡◌, sym, ◌∙◌, ap, ◌+◌, ◌++◌, drop, arith}
+use Rattle.std.proofs.Common.{refl, sym, ◌∙◌, ap, ◌++◌, length, arith, length-append}
 use Rattle.fields.specs.Lay.{laid}
-use Rattle.text.proofs.LineLaws.{Holds}
-use Rattle.front.specs.Line.{line_at}
-use Rattle.front.specs.Listed.{listed}
-use Rattle.row.proofs.RoomLaws.{line_whole}
 use Rattle.fields.proofs.LaidLaws.{laid_next, laid_whole}
-use Rattle.listing.proofs.WalkLaws.{rest, rest_none, rest_turn}
+use Rattle.front.specs.Listed.{listed}
+use Rattle.row.specs.Left.{lines_left}
+use Rattle.listing.proofs.WalkLaws.{joined, joined_lines}
 use Rattle.listing.proofs.listing.write.Goals as goal
 
-pub loop-at-preserved : goal.loop-at-preserved
-loop-at-preserved c =
-    let l = c.loop-at in
-    let program = c.args.program.now in
-    let start = c.args.start in
-    let row = c.of-row in
-    let line = line_at (start + l.at) (drop l.at program) in
-    let left = rest program start row.result.next in
-    let holds : Holds line row.result.line = line_whole (start + l.at) (drop l.at program) row.ensures.line_value in
-    let turn : rest program start l.at ≡ line ++ left = rest_turn program start l.at c.loop-at-test.true row.ensures.next_value in (
-      omega arith,
-      omega arith,
-      c.lay.auto.buffer ∙ l.invariant.2,
-      rw (c.lay.ensures, c.as_bytes.ensures, holds.whole)
-          (laid_next l.buffer l.place line left holds.size ∙ sym (ap (laid l.buffer l.place) turn) ∙ l.invariant.3),
+pub loop-line-init : goal.loop-line-init
+loop-line-init c =
+    let lines = ap lines_left c.into_iter-line-iterator.ensures.into_iter_gives ∙ c.of-line-items.ensures in
+    let all = ap joined lines ∙ joined_lines c.args.program.now c.args.start in
+    (omega (arith, ap length all), ap (laid c.args.buffer.now 0) all)
+
+pub loop-line-preserved : goal.loop-line-preserved
+loop-line-preserved c =
+    let l = c.loop-line in
+    let text = c.as_bytes-text.result.now in
+    let left = joined (lines_left c.next.new.self) in
+    let turn = ap joined c.in-Some.ensures.steps ∙ ap (λ t. t ++ left) (sym c.as_bytes-text.ensures) in (
+      omega (arith, simp length-append at (ap length turn), l.invariant.0),
+      rw c.lay.ensures (laid_next l.buffer l.place text left refl ∙ sym (ap (laid l.buffer l.place) turn) ∙ l.invariant.1),
     )
 
 pub returns : goal.returns
 returns c =
-    let l = c.loop-at in
-    let program = c.args.program.now in
-    let start = c.args.start in
-    sym (ap (laid l.buffer l.place) (rest_none program start l.at c.loop-at-test.false))
-    ∙ l.invariant.3
-    ∙ laid_whole c.args.buffer.now (listed program start) (omega arith)
+    let l = c.loop-line in
+    sym (ap (λ lines. laid l.buffer l.place (joined lines)) c.in-None.ensures.steps.0)
+    ∙ l.invariant.1
+    ∙ laid_whole c.args.buffer.now (listed c.args.program.now c.args.start) c.requires.start_in_bounds
