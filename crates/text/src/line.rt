@@ -29,21 +29,17 @@ impl Line {
 
     // A piece of text behind what is there, as far as there is room.
     #[tactic(auto, using(crate::proofs::LineLaws::line_laws))]
-    pub fn text(self, text: &[u8]) -> Line
+    pub fn text(mut self, text: &[u8]) -> Line
         ensures { result ≡ appended self text.now }
     {
-        let Line {
-            mut bytes,
-            mut length,
-        } = self;
         for byte in text {
-            if length >= 64 {
+            if self.length >= 64 {
                 break;
             }
-            bytes[length] = *byte;
-            length += 1;
+            self.bytes[self.length] = *byte;
+            self.length += 1;
         }
-        Line { bytes, length }
+        self
     }
 
     // A number in decimal, without leading zeros. The largest has twenty digits; they come last first.
