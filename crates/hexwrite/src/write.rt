@@ -1,5 +1,5 @@
 // The records of an image, into a lent buffer.
-ghost use Rattle.std.specs.Prelude.{◌≡◌, ◌≤◌, ◌++◌, length, drop};
+ghost use Rattle.std.specs.Prelude.{◌≡◌, ◌≤◌, ◌++◌, IfOk, length, drop};
 ghost use Rattle.fields.specs.Written.{told};
 ghost use Rattle.hexwrite.specs.Numbers.{write_number};
 ghost use Rattle.hexwrite.specs.Writer.{text_of, writing_of};
@@ -18,7 +18,8 @@ pub enum WriteRefusal {
 // The length of the text. It is measured before it is written, so that a buffer without room stays as it was.
 #[tactic(auto, unfolding(crate::specs::Writer::writing_of))]
 pub fn write(image: &[u8], marks: &[u8], buffer: &mut [u8]) -> Result<usize, WriteRefusal>
-    ensures { told (write_number result) buffer.new ≡ writing_of image.now marks.now buffer.old }
+    ensures value { told (write_number result) buffer.new ≡ writing_of image.now marks.now buffer.old }
+    ensures bound { IfOk result (λ n. n ≤ length buffer.new) }
 {
     let image = image.as_array().ok_or(WriteRefusal::NoImage)?;
     let marks = marks.as_array().ok_or(WriteRefusal::NoImage)?;
