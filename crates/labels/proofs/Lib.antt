@@ -1,3 +1,4 @@
 pub mod PassLaws
 pub mod NumberLaws
 pub mod InsideLaws
+pub mod VerdictLaws
