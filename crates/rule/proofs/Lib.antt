@@ -1,2 +1,1 @@
 pub mod VerdictLaws
-mod PieceLaws

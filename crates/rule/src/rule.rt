@@ -24,6 +24,7 @@ pub fn load_rule(rule: &[u8], limit: u16) -> Handed<LoadAnswer>
     machine.load(rule, 0)
 }
 
+#[tactic(auto, unfolding(crate::specs::Rule::rule_of))]
 pub fn run_rule(rule: &[u8], limit: u16, input: &[u8], output: &mut [u8]) -> Ending
     ensures { ending result output.new ≡ rule_of rule.now limit input.now output.old }
 {

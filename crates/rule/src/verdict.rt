@@ -1,4 +1,6 @@
 // The verdict: the line that says how a rule ended.
+#![tactic(auto, using(text::proofs::LineLaws::appended_twice), unfolding(crate::specs::Verdict::verdict_of, crate::specs::Verdict::too_long))]
+
 ghost use Rattle.std.specs.Prelude.{◌≡◌};
 ghost use Rattle.effect.specs.Numbers.{fault_number};
 ghost use Rattle.nanocore.specs.Numbers.{run_number};
@@ -14,8 +16,8 @@ pub fn verdict(answer: RunAnswer, count: u16, pc: u8) -> Line
     ensures { result ≡ lined (verdict_of (run_number answer) count pc) }
 {
     said(answer)
-        .named(b"count", count as usize)
-        .named(b"pc", pc as usize)
+        .named(b"count", usize::from(count))
+        .named(b"pc", usize::from(pc))
         .text(b"\n")
 }
 
@@ -25,7 +27,7 @@ pub fn too_long(length: usize, start: u8) -> Line
 {
     refused(11)
         .named(b"length", length)
-        .named(b"start", start as usize)
+        .named(b"start", usize::from(start))
         .text(b"\n")
 }
 
@@ -35,7 +37,7 @@ fn said(answer: RunAnswer) -> Line
     match answer {
         Ok(()) => Line::empty().text(b"halted"),
         Err(RunRefusal::Fault(fault)) => faulted(fault),
-        Err(RunRefusal::LimitReached(limit)) => refused(10).named(b"limit", limit as usize),
+        Err(RunRefusal::LimitReached(limit)) => refused(10).named(b"limit", usize::from(limit)),
     }
 }
 
@@ -44,10 +46,10 @@ fn faulted(fault: Fault) -> Line
     ensures { result ≡ lined (said (fault_number fault)) }
 {
     match fault {
-        Fault::InvalidOpcode { opcode, .. } => refused(3).named(b"opcode", opcode as usize),
-        Fault::StackFull(sp) => refused(4).named(b"sp", sp as usize),
-        Fault::StackEmpty(sp) => refused(5).named(b"sp", sp as usize),
-        Fault::DivisorZero(opcode) => refused(6).named(b"opcode", opcode as usize),
+        Fault::InvalidOpcode { opcode, .. } => refused(3).named(b"opcode", usize::from(opcode)),
+        Fault::StackFull(sp) => refused(4).named(b"sp", usize::from(sp)),
+        Fault::StackEmpty(sp) => refused(5).named(b"sp", usize::from(sp)),
+        Fault::DivisorZero(opcode) => refused(6).named(b"opcode", usize::from(opcode)),
         Fault::NoInput => refused(7),
         Fault::NoRoom => refused(8),
     }

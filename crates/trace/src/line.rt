@@ -6,14 +6,15 @@ ghost use Rattle.trace.specs.State.{state_line};
 use nanocore::machine::Machine;
 use text::line::Line;
 
+#[tactic(auto, using(text::proofs::LineLaws::appended_twice), unfolding(crate::specs::State::state_line))]
 pub fn line(machine: Machine) -> Line
     ensures { result ≡ lined (state_line machine) }
 {
     Line::empty()
         .text(b"pc ")
-        .decimal(machine.pc as usize)
-        .named(b"sp", machine.sp as usize)
-        .named(b"flags", machine.flags as usize)
-        .named(b"count", machine.count as usize)
+        .decimal(usize::from(machine.pc))
+        .named(b"sp", usize::from(machine.sp))
+        .named(b"flags", usize::from(machine.flags))
+        .named(b"count", usize::from(machine.count))
         .text(b"\n")
 }
