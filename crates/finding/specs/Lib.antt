@@ -1,2 +1,4 @@
 pub mod Found
 pub mod Line
+pub mod Standing
+pub mod Left

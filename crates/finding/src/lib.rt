@@ -5,3 +5,5 @@
 pub mod line;
 // What stands at a place, and how it counts.
 pub mod finding;
+// What stands at all places.
+pub mod findings;

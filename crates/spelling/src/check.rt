@@ -1,14 +1,16 @@
 // The check of a rule: a line for each instruction that is not in plain spelling, and then how many are, into a lent buffer.
-ghost use Rattle.std.specs.Prelude.{◌≤◌, ◌++◌, ◌≡◌, IfOk, length, drop};
+ghost use Rattle.std.specs.Prelude.{◌+◌, ◌^◌, ◌<◌, ◌≤◌, ◌++◌, ◌≡◌, IfOk, length, drop};
 ghost use Rattle.fields.specs.Written.{told};
 ghost use Rattle.text.specs.Lines.{lined};
 ghost use Rattle.finding.specs.Found.{plain_in};
 ghost use Rattle.finding.specs.Line.{lines_of};
+ghost use Rattle.finding.specs.Standing.{said_by};
 ghost use Rattle.spelling.specs.Check.{check_of, counts_of, found};
 ghost use Rattle.spelling.specs.Numbers.{check_number};
 
 use fields::lay::lay;
-use finding::finding::Finding;
+use finding::finding::Standing;
+use finding::findings::Findings;
 use text::line::Line;
 
 // Why there is no text: the rule's length, or the room that the text needs.
@@ -52,26 +54,44 @@ impl Tally {
         ensures instructions_value { result.instructions ≡ length (found rule.now) }
         ensures plain_value { result.plain ≡ plain_in (found rule.now) }
     {
-        let mut lines = 0;
-        let mut instructions = 0;
-        let mut plain = 0;
-        let mut at = 0;
-        while at < rule.len() {
-            let finding = Finding::of(rule, at);
-            lines += finding.line.length;
-            instructions += finding.instructions;
-            plain += finding.plain;
-            at = finding.next;
+        let mut tally = Tally {
+            lines: 0,
+            instructions: 0,
+            plain: 0,
+        };
+        for standing in Findings::of(rule) {
+            tally = tally.with(standing);
         }
-        Tally {
-            lines,
-            instructions,
-            plain,
+        tally
+    }
+
+    // And what stands at one more place.
+    fn with(self, standing: Standing) -> Tally
+        requires lines_fit { self.lines + length (said_by standing).text < 2 ^ 64 }
+        requires instructions_fit { self.instructions + (said_by standing).instructions < 2 ^ 64 }
+        requires plain_fit { self.plain + (said_by standing).plain < 2 ^ 64 }
+        ensures lines_value { result.lines ≡ self.lines + length (said_by standing).text }
+        ensures instructions_value { result.instructions ≡ self.instructions + (said_by standing).instructions }
+        ensures plain_value { result.plain ≡ self.plain + (said_by standing).plain }
+    {
+        match standing {
+            Standing::Alone => self,
+            Standing::Plain => Tally {
+                instructions: self.instructions + 1,
+                plain: self.plain + 1,
+                ..self
+            },
+            Standing::Unplain(line) => Tally {
+                lines: self.lines + line.as_bytes().len(),
+                instructions: self.instructions + 1,
+                ..self
+            },
         }
     }
 }
 
 // The last line.
+#[tactic(auto, using(text::proofs::LineLaws::appended_twice), unfolding(crate::specs::Check::counts_of))]
 fn counts(plain: usize, instructions: usize) -> Line
     ensures { result ≡ lined (counts_of plain instructions) }
 {
@@ -90,11 +110,11 @@ fn write_lines(rule: &[u8], buffer: &mut [u8])
     ensures { buffer.new ≡ lines_of (found rule.now) ++ drop (length (lines_of (found rule.now))) buffer.old }
 {
     let mut place = 0;
-    let mut at = 0;
-    while at < rule.len() {
-        let finding = Finding::of(rule, at);
-        lay(buffer, place, finding.line.as_bytes());
-        place += finding.line.length;
-        at = finding.next;
+    for standing in Findings::of(rule) {
+        if let Standing::Unplain(line) = standing {
+            let text = line.as_bytes();
+            lay(buffer, place, text);
+            place += text.len();
+        }
     }
 }

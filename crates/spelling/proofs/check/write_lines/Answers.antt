@@ -1,43 +1,37 @@
--- The line that was found is laid whole, and what is left is laid behind it; nothing wraps, since there is no more
--- than fits.
-use Rattle.std.proofs.Common.{sym, ◌∙◌, ap, drop, arith}
+-- The line that is said is laid whole, and what is left is laid behind it.
+use Rattle.std.proofs.Common.{refl, sym, ◌∙◌, ap, ◌++◌, length, arith, length-append}
 use Rattle.fields.specs.Lay.{laid}
 use Rattle.fields.proofs.LaidLaws.{laid_next, laid_whole}
+use Rattle.finding.specs.Left.{findings_left}
 use Rattle.finding.specs.Line.{lines_of}
-use Rattle.finding.proofs.RoomLaws.{found_holds}
+use Rattle.finding.specs.Standing.{said_by}
 use Rattle.spelling.specs.Check.{found}
-use Rattle.spelling.proofs.RoomLaws.{lines_few}
-use Rattle.spelling.proofs.WalkLaws.{here, rest, rest_none, lines_turn, said_on}
+use Rattle.spelling.proofs.WalkLaws.{text_all, text_found}
 use Rattle.spelling.proofs.check.write_lines.Goals as goal
 
-pub overflow_add-place : goal.overflow_add-place
-overflow_add-place c =
-    let said = c.of-finding.ensures in
-    let lines = said_on c.args.rule.now c.loop-at.at c.loop-at-test.true said.next_value c.loop-at.place said.line_value c.loop-at.invariant.1 in
-    omega (arith, lines, lines_few c.args.rule.now (omega arith))
+pub loop-standing-init : goal.loop-standing-init
+loop-standing-init c =
+    let left = ap findings_left c.into_iter-standing-iterator.ensures.into_iter_gives ∙ c.of-standing-items.ensures in
+    let all = ap text_all left ∙ text_found c.args.rule.now in
+    (omega (arith, ap length all), refl, ap (laid c.args.buffer.now 0) all)
 
-pub loop-at-preserved : goal.loop-at-preserved
-loop-at-preserved c =
-    let l = c.loop-at in
-    let rule = c.args.rule.now in
-    let more = c.loop-at-test.true in
-    let said = c.of-finding.ensures in
-    let holds = found_holds l.at (drop l.at rule) said.line_value in
-    let left = lines_of (rest rule c.of-finding.result.next) in (
-      omega arith,
-      said_on rule l.at more said.next_value l.place said.line_value l.invariant.1,
-      c.lay.auto.buffer ∙ l.invariant.2,
-      rw (c.lay.ensures, c.as_bytes.ensures, holds.whole)
-          (laid_next l.buffer l.place (lines_of (here rule l.at)) left holds.size
-          ∙ sym (ap (laid l.buffer l.place) (lines_turn rule l.at more said.next_value))
-          ∙ l.invariant.3),
+pub loop-standing-preserved-in-Unplain : goal.loop-standing-preserved-in-Unplain
+loop-standing-preserved-in-Unplain c =
+    let l = c.loop-standing in
+    let text = c.as_bytes-text.result.now in
+    let left = text_all (findings_left c.next.new.self) in
+    let turn =
+    ap text_all c.in-Some.ensures.steps
+    ∙ ap (λ s. (said_by s).text ++ left) c.in-Unplain.is
+    ∙ ap (λ t. t ++ left) (sym c.as_bytes-text.ensures) in (
+      omega (arith, simp length-append at (ap length turn), l.invariant.0),
+      c.lay.auto.buffer ∙ l.invariant.1,
+      rw c.lay.ensures (laid_next l.buffer l.place text left refl ∙ sym (ap (laid l.buffer l.place) turn) ∙ l.invariant.2),
     )
 
 pub returns : goal.returns
 returns c =
-    let l = c.loop-at in
-    let rule = c.args.rule.now in
-    let none = rest_none rule l.at c.loop-at-test.false in
-    sym (ap (λ fs. laid l.buffer l.place (lines_of fs)) none)
-    ∙ l.invariant.3
-    ∙ laid_whole c.args.buffer.now (lines_of (found rule)) (omega arith)
+    let l = c.loop-standing in
+    sym (ap (λ ss. laid l.buffer l.place (text_all ss)) c.in-None.ensures.steps.0)
+    ∙ l.invariant.2
+    ∙ laid_whole c.args.buffer.now (lines_of (found c.args.rule.now)) c.requires.rule_in_bounds

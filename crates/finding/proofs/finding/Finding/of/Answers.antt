@@ -1,6 +1,6 @@
 -- The slice is all that is left of the rule, so what its bytes begin with stands at the place; its case and the test
 -- pick what is said of it.
-use Rattle.std.proofs.Common.{◌≡◌, sym, ◌∙◌, ap, ℕ, ◌+◌, ◌-◌, ◌<◌, ◌≤◌, List, length, take, drop, arith, length-drop}
+use Rattle.std.proofs.Common.{◌≡◌, refl, sym, ◌∙◌, ap, ℕ, ◌+◌, ◌-◌, ◌<◌, ◌≤◌, List, length, take, drop, arith, length-drop}
 use Rattle.std.proofs.Math.Seq.{take_all}
 use Rattle.front.specs.declared.front.Front.{Front}
 use Rattle.front.specs.Front.{front_of, size_of}
@@ -24,7 +24,7 @@ pub returns-then-found-clause-line_value : goal.returns-then-found-clause-line_v
 unfolding appended
 returns-then-found-clause-line_value c =
     let e = sym (front_there c.args.rule.now c.args.at c.of-front.ensures) ∙ c.in-Whole.is in
-    rw (e, c.if-found.true) c.empty.ensures
+    rw (e, c.if-found.true) refl
 
 pub returns-then-found-clause-next_in_bounds : goal.returns-then-found-clause-next_in_bounds
 returns-then-found-clause-next_in_bounds c =
@@ -34,4 +34,4 @@ pub returns-in-Alone-clause-line_value : goal.returns-in-Alone-clause-line_value
 unfolding appended
 returns-in-Alone-clause-line_value c =
     let e = sym (front_there c.args.rule.now c.args.at c.of-front.ensures) ∙ c.in-Alone.is in
-    rw e c.empty-in-Alone.ensures
+    rw e refl

@@ -1,49 +1,37 @@
--- A finding more is measured and counted; nothing wraps, since there is no more than fits.
-use Rattle.std.proofs.Common.{ap, length, arith}
-use Rattle.finding.specs.Found.{plain_in}
-use Rattle.finding.specs.Line.{lines_of}
+-- What stands at a place is measured and counted; nothing wraps, since there is no more than fits.
+use Rattle.std.proofs.Common.{◌∙◌, ap, length, arith, length-append}
+use Rattle.finding.specs.Left.{findings_left}
 use Rattle.spelling.proofs.RoomLaws.{found_few, found_plain, lines_few}
-use Rattle.spelling.proofs.WalkLaws.{rest_none, said_on, count_turn, plain_turn}
+use Rattle.spelling.proofs.WalkLaws.{text_all, instructions_all, plain_all, text_found, instructions_found, plain_found}
 use Rattle.spelling.proofs.check.Tally.of.Goals as goal
 
-pub overflow_add-lines : goal.overflow_add-lines
-overflow_add-lines c =
-    let said = c.of-finding.ensures in
-    let lines = said_on c.args.rule.now c.loop-at.at c.loop-at-test.true said.next_value c.loop-at.lines said.line_value c.loop-at.invariant.1 in
-    omega (arith, lines, lines_few c.args.rule.now (omega arith))
-
-pub overflow_add-instructions : goal.overflow_add-instructions
-overflow_add-instructions c =
-    let said = c.of-finding.ensures in
-    let turn = count_turn c.args.rule.now c.loop-at.at c.loop-at-test.true said.next_value in
-    omega (arith, turn, said.instructions_value, found_few c.args.rule.now (omega arith))
-
-pub overflow_add-plain : goal.overflow_add-plain
-overflow_add-plain c =
-    let said = c.of-finding.ensures in
-    let turn = plain_turn c.args.rule.now c.loop-at.at c.loop-at-test.true said.next_value in
-    omega (arith, turn, said.plain_value, found_plain c.args.rule.now (omega arith))
-
-pub loop-at-preserved : goal.loop-at-preserved
-loop-at-preserved c =
+pub loop-standing-init : goal.loop-standing-init
+loop-standing-init c =
     let rule = c.args.rule.now in
-    let at = c.loop-at.at in
-    let more = c.loop-at-test.true in
-    let said = c.of-finding.ensures in (
-      omega arith,
-      said_on rule at more said.next_value c.loop-at.lines said.line_value c.loop-at.invariant.1,
-      omega (arith, count_turn rule at more said.next_value, said.instructions_value),
-      omega (arith, plain_turn rule at more said.next_value, said.plain_value),
+    let left = ap findings_left c.into_iter-standing-iterator.ensures.into_iter_gives ∙ c.of-standing-items.ensures in (
+      omega (arith, ap length (ap text_all left ∙ text_found rule)),
+      omega (arith, ap instructions_all left ∙ instructions_found rule),
+      omega (arith, ap plain_all left ∙ plain_found rule),
     )
 
-pub returns-clause-lines_value : goal.returns-clause-lines_value
-returns-clause-lines_value c =
-    omega (arith, ap (λ fs. length (lines_of fs)) (rest_none c.args.rule.now c.loop-at.at c.loop-at-test.false))
+pub with-tally-requires-clause-lines_fit : goal.with-tally-requires-clause-lines_fit
+with-tally-requires-clause-lines_fit c =
+    omega (
+      arith,
+      simp length-append at (ap (λ ss. length (text_all ss)) c.in-Some.ensures.steps),
+      c.loop-standing.invariant.0,
+      lines_few c.args.rule.now (omega arith),
+    )
 
-pub returns-clause-instructions_value : goal.returns-clause-instructions_value
-returns-clause-instructions_value c =
-    omega (arith, ap length (rest_none c.args.rule.now c.loop-at.at c.loop-at-test.false))
+pub with-tally-requires-clause-instructions_fit : goal.with-tally-requires-clause-instructions_fit
+with-tally-requires-clause-instructions_fit c =
+    omega (
+      arith,
+      ap instructions_all c.in-Some.ensures.steps,
+      c.loop-standing.invariant.1,
+      found_few c.args.rule.now (omega arith),
+    )
 
-pub returns-clause-plain_value : goal.returns-clause-plain_value
-returns-clause-plain_value c =
-    omega (arith, ap plain_in (rest_none c.args.rule.now c.loop-at.at c.loop-at-test.false))
+pub with-tally-requires-clause-plain_fit : goal.with-tally-requires-clause-plain_fit
+with-tally-requires-clause-plain_fit c =
+    omega (arith, ap plain_all c.in-Some.ensures.steps, c.loop-standing.invariant.2, found_plain c.args.rule.now (omega arith))
