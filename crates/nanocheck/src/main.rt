@@ -3,20 +3,15 @@
 #![tactic(auto)]
 
 use program::input::standard_input;
-use program::say;
 use program::say::Streams;
-use spelling::check::{CheckAnswer, check};
+use spelling::check::{CheckRefusal, check};
 
 // The buffer holds far more than a rule may have, so what does not fit is too long, whatever follows.
 fn main(rt: HostRuntime) {
-    let to = Streams {
-        out: rt.stdout(),
-        err: rt.stderr(),
-    };
+    let to = Streams::new(&rt, "nanocheck");
     let mut rule = [0u8; 65536];
-    let got = standard_input(rt.stdin(), to.err, b"nanocheck", &mut rule);
-    if !got.failed {
-        print(to, &rule[..got.count]);
+    if let Ok(count) = standard_input(rt.stdin(), to, &mut rule) {
+        print(to, &rule[..count]);
     }
 }
 
@@ -24,14 +19,10 @@ fn main(rt: HostRuntime) {
 fn print(to: Streams, rule: &[u8]) {
     let mut text = [0u8; 65536];
     match check(rule, &mut text) {
-        CheckAnswer::Checked(length) => {
-            say::print(to, b"nanocheck", &text, length);
-        },
-        CheckAnswer::TooLong(length) => {
-            say::refused(to, b"nanocheck", 11, b"a rule has at most 256 bytes");
-        },
-        CheckAnswer::NoRoom(needed) => {
-            say::refused(to, b"nanocheck", 14, b"no room for the lines");
-        },
+        Ok(length) => {
+            to.print(&text[..length]);
+        }
+        Err(CheckRefusal::TooLong(_)) => to.refused(11, "a rule has at most 256 bytes"),
+        Err(CheckRefusal::NoRoom(_)) => to.refused(14, "no room for the lines"),
     }
 }
