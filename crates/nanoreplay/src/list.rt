@@ -2,205 +2,136 @@
 ghost use Rattle.std.specs.Prelude.{◌≤◌, length};
 
 use crate::say;
-use compare::verdict::Verdict;
-use lines::line::{Line, first_word, replay_line, word_end};
-use scan::scan::line_end;
+use crate::say::{Remark, Tally};
+use compare::verdict::{Mismatch, Verdict};
+use lines::line::{NoCase, first_word, replay_line, word_end};
 use std::io::Read;
-use std::num::wrapping_add_u64;
 use std::rt::Stdout;
 
 // So many differences are printed; all are counted.
 const SHOWN: u64 = 20;
 
-// How many lines were read, how many cases were compared, how many of them differ, and how many lines were no whole cases.
-#[derive(Clone, Copy)]
-pub struct Tally {
-    pub lines: u64,
-    pub compared: u64,
-    pub differ: u64,
-    pub unread: u64,
-}
-
-// How far the lines of a text were read.
-#[derive(Clone, Copy)]
-struct Lines {
+// A list as it is replayed: what was counted so far, and room for the bytes of a case.
+#[derive(Drop)]
+struct Replay {
+    out: Stdout,
     tally: Tally,
-    used: usize,
-}
-
-// Where the reading stands: the bytes of an unfinished line wait at the buffer's start for more.
-#[derive(Clone, Copy)]
-struct Reading {
-    tally: Tally,
-    waiting: usize,
-    more: bool,
+    case: [u8; 65536],
 }
 
 // Reads the list to its end and says how its cases compared.
 pub fn replay_list<R: Read>(file: &mut R, out: Stdout) {
     let mut text = [0u8; 65536];
-    let mut bytes = [0u8; 65536];
-    let mut reading = Reading {
-        tally: Tally {
-            lines: 0,
-            compared: 0,
-            differ: 0,
-            unread: 0,
-        },
-        waiting: 0,
-        more: true,
+    let mut replay = Replay {
+        out,
+        tally: Tally::default(),
+        case: [0; 65536],
     };
+    let mut waiting = 0;
     // a proved loop has to end, and nothing says that a file does: so many turns no run uses up
     for _ in 0..u64::MAX {
-        if !reading.more {
-            break;
+        match replay.read_on(file, &mut text, waiting) {
+            Some(left) => waiting = left,
+            None => break,
         }
-        reading = read_on(file, out, &mut text, &mut bytes, reading);
     }
-    say::tally(out, reading.tally);
+    say::total(out, replay.tally);
 }
 
-// Reads once, and replays the lines that are whole by then.
-fn read_on<R: Read>(
-    file: &mut R,
-    out: Stdout,
-    text: &mut [u8],
-    bytes: &mut [u8],
-    reading: Reading,
-) -> Reading {
-    let waiting = reading.waiting;
-    let tally = reading.tally;
-    if waiting >= text.len() {
-        say::too_long(out, wrapping_add_u64(tally.lines, 1), text.len());
-        return ended(unread(tally));
-    }
-    let got = files::read(file, &mut text[waiting..]).count;
-    if got == 0 {
-        if waiting == 0 {
-            return ended(tally);
+impl Replay {
+    // Reads once, and replays the lines that are whole by then. The bytes of an unfinished line wait at the buffer's start for more; where the list is at
+    // its end, or could not be read on, there is nothing to wait for.
+    fn read_on<R: Read>(&mut self, file: &mut R, text: &mut [u8], waiting: usize) -> Option<usize> {
+        if waiting >= text.len() {
+            self.unfinished(Remark::TooLong(text.len()));
+            return None;
         }
-        say::cut(out, wrapping_add_u64(tally.lines, 1));
-        return ended(unread(tally));
-    }
-    let filled = waiting + got;
-    let lines = replay_lines(out, &text[..filled], bytes, tally);
-    let counted = lines.tally;
-    let left = move_down(text, lines.used, filled);
-    Reading {
-        tally: counted,
-        waiting: left,
-        more: true,
-    }
-}
-
-fn ended(tally: Tally) -> Reading {
-    Reading {
-        tally: tally,
-        waiting: 0,
-        more: false,
-    }
-}
-
-// Replays the lines of the text that have their LF.
-fn replay_lines(out: Stdout, text: &[u8], bytes: &mut [u8], tally: Tally) -> Lines
-    ensures { result.used ≤ length text.now }
-{
-    let mut counted = tally;
-    let mut at: usize = 0;
-    while at < text.len() {
-        let end = line_end(text, at);
-        if end >= text.len() {
-            break;
-        }
-        counted = replay_one(out, &text[at..end], bytes, counted);
-        at = end + 1;
-    }
-    Lines {
-        tally: counted,
-        used: at,
-    }
-}
-
-// Moves the bytes of a stretch to the start, and answers how many they are.
-fn move_down(text: &mut [u8], from: usize, to: usize) -> usize
-    requires from_le_to { from ≤ to }
-    requires to_in_bounds { to ≤ length text.old }
-{
-    let count = to - from;
-    let mut i: usize = 0;
-    while i < count {
-        text[i] = text[from + i];
-        i += 1;
-    }
-    count
-}
-
-// Replays the case of one line, says what is to be said of it, and counts it.
-fn replay_one(out: Stdout, line: &[u8], bytes: &mut [u8], tally: Tally) -> Tally {
-    let t = Tally {
-        lines: wrapping_add_u64(tally.lines, 1),
-        compared: tally.compared,
-        differ: tally.differ,
-        unread: tally.unread,
-    };
-    if is_remark(line) {
-        return t;
-    }
-    match replay_line(line, bytes) {
-        Line::Judged(verdict) => judged(out, line, verdict, t),
-        Line::NoKind => {
-            say::no_kind(out, t.lines);
-            unread(t)
-        },
-        Line::NoByte(at) => {
-            say::no_byte(out, t.lines, word_end(line), at);
-            unread(t)
-        },
-    }
-}
-
-fn is_remark(line: &[u8]) -> bool {
-    if line.len() == 0 {
-        return false;
-    }
-    line[0] == b'#'
-}
-
-fn judged(out: Stdout, line: &[u8], verdict: Verdict, t: Tally) -> Tally {
-    match verdict {
-        Verdict::Same => compared(t, 0),
-        Verdict::Differs(difference) => {
-            if t.differ < SHOWN {
-                let end = word_end(line);
-                say::differs(out, t.lines, first_word(&line[..end]), difference);
+        let more = files::read(file, &mut text[waiting..]).unwrap_or_else(|cut| cut.count);
+        if more == 0 {
+            if waiting > 0 {
+                self.unfinished(Remark::Cut);
             }
-            compared(t, 1)
-        },
-        Verdict::Torn(needed) => {
-            say::torn(out, t.lines, needed);
-            unread(t)
-        },
-        Verdict::Unfit => {
-            say::unfit(out, t.lines);
-            unread(t)
-        },
+            return None;
+        }
+        let filled = waiting + more;
+        let used = self.replay_lines(&text[..filled]);
+        text.copy_within(used..filled, 0);
+        Some(filled - used)
+    }
+
+    // Replays the lines of the text that have their LF, and answers how many bytes they are.
+    fn replay_lines(&mut self, text: &[u8]) -> usize
+        ensures { result ≤ length text.now }
+    {
+        let used = text
+            .iter()
+            .rposition(|byte| *byte == b'\n')
+            .map_or(0, |last| last + 1);
+        for line in text[..used].split_inclusive(|byte| *byte == b'\n') {
+            self.replay_one(line.strip_suffix(b"\n").unwrap_or(line));
+        }
+        used
+    }
+
+    // Replays the case of one line, says what is to be said of it, and counts it.
+    fn replay_one(&mut self, line: &[u8]) {
+        self.tally.lines = self.tally.lines.wrapping_add(1);
+        if line.starts_with(b"#") {
+            return;
+        }
+        match replay_line(line, &mut self.case) {
+            Ok(verdict) => self.judged(line, verdict),
+            Err(NoCase::NoKind) => self.no_case(Remark::NoKind),
+            // columns are counted from 1: the word's bytes, and so many behind it
+            Err(NoCase::NoByte(at)) => {
+                self.no_case(Remark::NoByte(word_end(line).wrapping_add(at).wrapping_add(1)))
+            }
+        }
+    }
+
+    fn judged(&mut self, line: &[u8], verdict: Verdict) {
+        match verdict {
+            Ok(()) => self.tally.compared(),
+            Err(Mismatch::Differs(difference)) => {
+                if self.tally.differ < SHOWN {
+                    let kind = first_word(&line[..word_end(line)]);
+                    self.say(Remark::Differs(kind, difference));
+                }
+                self.tally.differs();
+            }
+            Err(Mismatch::Torn(needed)) => self.no_case(Remark::Torn(needed)),
+            Err(Mismatch::Unfit) => self.no_case(Remark::Unfit),
+        }
+    }
+
+    // Of the line that was counted last.
+    fn say(&self, remark: Remark) {
+        say::at_line(self.out, self.tally.lines, remark);
+    }
+
+    fn no_case(&mut self, remark: Remark) {
+        self.say(remark);
+        self.tally.unread();
+    }
+
+    // A line that was not read to its end is not counted as a line.
+    fn unfinished(&mut self, remark: Remark) {
+        say::at_line(self.out, self.tally.lines.wrapping_add(1), remark);
+        self.tally.unread();
     }
 }
 
-fn compared(t: Tally, differ: u64) -> Tally {
-    Tally {
-        lines: t.lines,
-        compared: wrapping_add_u64(t.compared, 1),
-        differ: wrapping_add_u64(t.differ, differ),
-        unread: t.unread,
+impl Tally {
+    fn compared(&mut self) {
+        self.compared = self.compared.wrapping_add(1);
     }
-}
 
-fn unread(t: Tally) -> Tally {
-    Tally {
-        lines: t.lines,
-        compared: t.compared,
-        differ: t.differ,
-        unread: wrapping_add_u64(t.unread, 1),
+    fn differs(&mut self) {
+        self.compared();
+        self.differ = self.differ.wrapping_add(1);
+    }
+
+    fn unread(&mut self) {
+        self.unread = self.unread.wrapping_add(1);
     }
 }

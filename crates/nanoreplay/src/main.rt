@@ -6,6 +6,7 @@
 mod list;
 mod say;
 
+use list::replay_list;
 use std::env::FillError;
 use std::io::Error;
 use std::rt::{Env, Files, Stderr, Stdout};
@@ -16,7 +17,7 @@ const NAME_TOO_LONG: i32 = 36;
 fn main(rt: HostRuntime) {
     let (out, err) = (rt.stdout(), rt.stderr());
     if !replay_file(&rt, out, err, 1) {
-        list::replay_list(&mut rt.stdin(), out);
+        replay_list(&mut rt.stdin(), out);
         return;
     }
     for i in 2..usize::MAX {
@@ -32,8 +33,11 @@ fn replay_file<R: Env + Files>(rt: &R, out: Stdout, err: Stderr, i: usize) -> bo
     match rt.arg(i, &mut path) {
         Ok(length) => replay_named(rt, out, err, &path[..length]),
         Err(FillError::TooLong) => {
-            let reason = Error::from_raw_os_error(NAME_TOO_LONG);
-            say::failed(err, b"nanoreplay: an argument", reason);
+            say::failed(
+                err,
+                b"nanoreplay: an argument",
+                Error::from_raw_os_error(NAME_TOO_LONG),
+            );
         }
         Err(FillError::NotPresent) => return false,
     }
@@ -43,9 +47,8 @@ fn replay_file<R: Env + Files>(rt: &R, out: Stdout, err: Stderr, i: usize) -> bo
 fn replay_named<R: Files>(rt: &R, out: Stdout, err: Stderr, path: &[u8]) {
     match files::open(rt, path) {
         Ok(mut file) => {
-            say::text(out, path);
-            say::line_end(out);
-            list::replay_list(&mut file, out);
+            say::name(out, path);
+            replay_list(&mut file, out);
         }
         Err(reason) => say::failed(err, path, reason),
     }

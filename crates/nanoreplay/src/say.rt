@@ -1,170 +1,163 @@
 // What nanoreplay prints.
-use crate::list::Tally;
 use compare::verdict::{Difference, Part};
 use lines::line::Word;
+use std::fmt;
 use std::io::Error;
-use std::num::wrapping_add_u64;
 use std::rt::{Stderr, Stdout};
 
-// What failed, and why, on standard error.
+// How many lines were read, how many cases were compared, how many of them differ, and how many lines were no whole cases.
+#[derive(Clone, Copy, Default)]
+pub struct Tally {
+    pub lines: u64,
+    pub compared: u64,
+    pub differ: u64,
+    pub unread: u64,
+}
+
+// What is to be said of a line.
+#[derive(Clone, Copy)]
+pub enum Remark {
+    // it has more bytes than this
+    TooLong(usize),
+    // the list ends inside it
+    Cut,
+    // its first word names no kind of case
+    NoKind,
+    // no byte stands in this column
+    NoByte(usize),
+    // its case needs so many bytes
+    Torn(usize),
+    // a number of its case is out of its range
+    Unfit,
+    // its case, of this kind, differs here
+    Differs(Option<Word>, Difference),
+}
+
+// Where a case of this kind differs.
+#[derive(Clone, Copy)]
+struct Place {
+    kind: Option<Word>,
+    part: Part,
+    index: usize,
+}
+
+// What failed, and why, on standard error. It need not be UTF-8, as a file's name.
 pub fn failed(err: Stderr, what: &[u8], reason: Error) {
     let _ = err.write_all(what);
-    let _ = err.write_all(b": ");
-    let _ = err.println(reason);
+    let _ = eprintln!(err; ": {reason}");
 }
 
-pub fn text(out: Stdout, bytes: &[u8]) {
-    let _ = out.write_all(bytes);
+// The name of a file, before what is said of its list.
+pub fn name(out: Stdout, path: &[u8]) {
+    let _ = out.write_all(path);
+    let _ = println!(out);
 }
 
-pub fn number(out: Stdout, n: u64) {
-    let _ = out.print(n);
+pub fn at_line(out: Stdout, line: u64, remark: Remark) {
+    let _ = println!(out; "line {line}: {remark}");
 }
 
-pub fn line_end(out: Stdout) {
-    text(out, b"\n");
+pub fn total(out: Stdout, tally: Tally) {
+    let _ = println!(out; "{tally}");
 }
 
-// The line at which something is to be said.
-fn line(out: Stdout, number_of_line: u64) {
-    text(out, b"line ");
-    number(out, number_of_line);
-    text(out, b": ");
-}
-
-// `compared N differ M`, and before it how many lines were no cases, where there were any.
-pub fn tally(out: Stdout, t: Tally) {
-    if t.unread > 0 {
-        text(out, b"not compared: ");
-        number(out, t.unread);
-        line_end(out);
+// How many lines were no cases stands there only where there were any.
+impl fmt::Display for Tally {
+    fn fmt<W: fmt::Write>(&self, f: &mut fmt::Formatter<W>) -> fmt::Result {
+        let Tally {
+            compared,
+            differ,
+            unread,
+            ..
+        } = *self;
+        if unread > 0 {
+            writeln!(f, "not compared: {unread}")?;
+        }
+        write!(f, "compared {compared} differ {differ}")
     }
-    text(out, b"compared ");
-    number(out, t.compared);
-    text(out, b" differ ");
-    number(out, t.differ);
-    line_end(out);
 }
 
-pub fn too_long(out: Stdout, at: u64, most: usize) {
-    line(out, at);
-    text(out, b"longer than ");
-    number(out, most as u64);
-    text(out, b" bytes; the rest of the list is not read");
-    line_end(out);
-}
-
-pub fn cut(out: Stdout, at: u64) {
-    line(out, at);
-    text(out, b"the list ends inside it");
-    line_end(out);
-}
-
-pub fn no_kind(out: Stdout, at: u64) {
-    line(out, at);
-    text(
-        out,
-        b"its first word is none of step, run, load, opcode, name, flags",
-    );
-    line_end(out);
-}
-
-// Columns are counted from 1: the word's bytes, and so many behind it.
-pub fn no_byte(out: Stdout, at: u64, word: usize, behind: usize) {
-    line(out, at);
-    text(out, b"no byte at column ");
-    number(
-        out,
-        wrapping_add_u64(wrapping_add_u64(word as u64, behind as u64), 1),
-    );
-    line_end(out);
-}
-
-pub fn torn(out: Stdout, at: u64, needed: usize) {
-    line(out, at);
-    text(out, b"torn: by its own counts the case has ");
-    number(out, needed as u64);
-    text(out, b" bytes");
-    line_end(out);
-}
-
-pub fn unfit(out: Stdout, at: u64) {
-    line(out, at);
-    text(
-        out,
-        b"halted, count, limit, start or room is out of its range",
-    );
-    line_end(out);
-}
-
-pub fn differs(out: Stdout, at: u64, word: Word, d: Difference) {
-    line(out, at);
-    kind(out, word);
-    let part = d.part;
-    match part {
-        Part::Number => field(out, word, d.index),
-        Part::Register => {
-            text(out, b"register ");
-            number(out, d.index as u64);
-        },
-        Part::Memory => {
-            text(out, b"memory ");
-            number(out, d.index as u64);
-        },
-        Part::Output => {
-            text(out, b"output ");
-            number(out, d.index as u64);
-        },
+impl fmt::Display for Remark {
+    fn fmt<W: fmt::Write>(&self, f: &mut fmt::Formatter<W>) -> fmt::Result {
+        match *self {
+            Remark::TooLong(most) => write!(
+                f,
+                "longer than {most} bytes; the rest of the list is not read"
+            ),
+            Remark::Cut => write!(f, "the list ends inside it"),
+            Remark::NoKind => write!(
+                f,
+                "its first word is none of step, run, load, opcode, name, flags"
+            ),
+            Remark::NoByte(column) => write!(f, "no byte at column {column}"),
+            Remark::Torn(needed) => write!(
+                f,
+                "torn: by its own counts the case has {needed} bytes"
+            ),
+            Remark::Unfit => write!(f, "halted, count, limit, start or room is out of its range"),
+            Remark::Differs(kind, difference) => {
+                let Difference {
+                    part,
+                    index,
+                    ours,
+                    theirs,
+                } = difference;
+                let place = Place { kind, part, index };
+                write!(f, "{place} is {ours}, the case has {theirs}")
+            }
+        }
     }
-    text(out, b" is ");
-    number(out, d.ours as u64);
-    text(out, b", the case has ");
-    number(out, d.theirs as u64);
-    line_end(out);
 }
 
-fn kind(out: Stdout, word: Word) {
+impl fmt::Display for Place {
+    fn fmt<W: fmt::Write>(&self, f: &mut fmt::Formatter<W>) -> fmt::Result {
+        let index = self.index;
+        f.write_str(kind(self.kind))?;
+        match self.part {
+            Part::Number => field(f, self.kind, index),
+            Part::Register => write!(f, "register {index}"),
+            Part::Memory => write!(f, "memory {index}"),
+            Part::Output => write!(f, "output {index}"),
+        }
+    }
+}
+
+fn kind(word: Option<Word>) -> &'static str {
     match word {
-        Word::Step => text(out, b"step: "),
-        Word::Run => text(out, b"run: "),
-        Word::Load => text(out, b"load: "),
-        Word::Opcode => text(out, b"opcode: "),
-        Word::Name => text(out, b"name: "),
-        Word::Flags => text(out, b"flags: "),
-        Word::Unknown => {},
+        Some(Word::Step) => "step: ",
+        Some(Word::Run) => "run: ",
+        Some(Word::Load) => "load: ",
+        Some(Word::Opcode) => "opcode: ",
+        Some(Word::Name) => "name: ",
+        Some(Word::Flags) => "flags: ",
+        None => "",
     }
 }
 
-// The name of a number of an answer: of a machine's by what it is, of the others by its place.
-fn field(out: Stdout, word: Word, index: usize) {
-    match word {
-        Word::Step => machine_field(out, index),
-        Word::Run => machine_field(out, index),
-        Word::Load => machine_field(out, index),
-        Word::Opcode => plain_field(out, index),
-        Word::Name => plain_field(out, index),
-        Word::Flags => plain_field(out, index),
-        Word::Unknown => plain_field(out, index),
+// A number of an answer: of a machine's by what it is, of the others by its place.
+fn field<W: fmt::Write>(
+    f: &mut fmt::Formatter<W>,
+    kind: Option<Word>,
+    index: usize,
+) -> fmt::Result {
+    match kind {
+        Some(Word::Step | Word::Run | Word::Load) => f.write_str(machine_field(index)),
+        _ => write!(f, "answer byte {index}"),
     }
 }
 
-fn machine_field(out: Stdout, index: usize) {
+fn machine_field(index: usize) -> &'static str {
     match index {
-        0 => text(out, b"the number"),
-        1 => text(out, b"the first value"),
-        2 => text(out, b"the second value"),
-        3 => text(out, b"pc"),
-        4 => text(out, b"sp"),
-        5 => text(out, b"flags"),
-        6 => text(out, b"halted"),
-        7 => text(out, b"count"),
-        8 => text(out, b"limit"),
-        9 => text(out, b"the place"),
-        _ => text(out, b"the number written"),
+        0 => "the number",
+        1 => "the first value",
+        2 => "the second value",
+        3 => "pc",
+        4 => "sp",
+        5 => "flags",
+        6 => "halted",
+        7 => "count",
+        8 => "limit",
+        9 => "the place",
+        _ => "the number written",
     }
-}
-
-fn plain_field(out: Stdout, index: usize) {
-    text(out, b"answer byte ");
-    number(out, index as u64);
 }
