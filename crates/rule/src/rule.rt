@@ -1,5 +1,5 @@
 // A rule with the station's bytes: loaded at 0 into a fresh machine and run.
-ghost use Rattle.std.specs.Prelude.{◌≡◌};
+ghost use Rattle.std.specs.Prelude.{◌≡◌, ◌≤◌, length};
 ghost use Rattle.nanocore.specs.Numbers.{loading};
 ghost use Rattle.rule.specs.Rule.{ending, ran_from, rule_loaded, rule_of};
 
@@ -26,7 +26,8 @@ pub fn load_rule(rule: &[u8], limit: u16) -> Handed<LoadAnswer>
 
 #[tactic(auto, unfolding(crate::specs::Rule::rule_of))]
 pub fn run_rule(rule: &[u8], limit: u16, input: &[u8], output: &mut [u8]) -> Ending
-    ensures { ending result output.new ≡ rule_of rule.now limit input.now output.old }
+    ensures value { ending result output.new ≡ rule_of rule.now limit input.now output.old }
+    ensures bound { result.written ≤ length output.new }
 {
     let loaded = load_rule(rule, limit);
     match loaded.answer {
@@ -38,8 +39,10 @@ pub fn run_rule(rule: &[u8], limit: u16, input: &[u8], output: &mut [u8]) -> End
     }
 }
 
+#[tactic(auto, using(crate::proofs::PrintedLaws::printed_within))]
 fn run_loaded(machine: Machine, input: &[u8], output: &mut [u8]) -> Ending
-    ensures { ending result output.new ≡ ran_from machine input.now output.old }
+    ensures value { ending result output.new ≡ ran_from machine input.now output.old }
+    ensures bound { result.written ≤ length output.new }
 {
     let ran = machine.run(input, 0, output, 0);
     let after = ran.machine;
