@@ -1,4 +1,6 @@
 // What a program writes to standard output, and what it says on standard error.
+ghost use Rattle.std.specs.Prelude.{◌≡◌};
+
 use std::fmt::Display;
 use std::io::{Error, Result};
 use std::rt::{Stderr, Stdout};
@@ -12,7 +14,9 @@ pub struct Streams {
 }
 
 impl Streams {
-    pub fn new(rt: &HostRuntime, program: &'static str) -> Streams {
+    pub fn new(rt: &HostRuntime, program: &'static str) -> Streams
+        ensures { result.program.now ≡ program.now }
+    {
         Streams {
             out: rt.stdout(),
             err: rt.stderr(),

@@ -1,5 +1,4 @@
 // A rule that is run, what it was to print, and whether lent steps take it to the same end.
-ghost use Rattle.std.specs.Prelude.{◌+◌, ◌≤◌};
 ghost use Rattle.files.specs.Counts.{IsPrefixLen};
 
 use crate::lent;
@@ -20,17 +19,6 @@ pub struct Example {
 }
 
 impl Example {
-    // Behind so many arguments.
-    pub fn after(arguments: usize) -> Example
-        requires { arguments + 3 ≤ usize.MAX }
-    {
-        Example {
-            rule: arguments + 1,
-            input: arguments + 2,
-            output: arguments + 3,
-        }
-    }
-
     pub fn run<R: Env + Files>(self, rt: &R, out: Stdout) {
         let mut rule = [0u8; 65536];
         let mut input = [0u8; 65536];
