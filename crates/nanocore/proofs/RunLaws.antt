@@ -1,9 +1,8 @@
 -- Step and run are so many turns: one, and those up to the limit. At the largest count a step is told by one turn from count 0.
 use Rattle.std.specs.Prelude.{◌≡◌, ℕ, zero, suc, ◌+◌, ◌-◌, ◌<◌, ◌≤◌, Bool, true, false, eqb, ltb, List, [], ◌∷◌, length, Result, Ok, Err}
 use mathlib.Core.Path.{refl, sym, ◌∙◌, ap, subst}
-use native.Mathlib.Nat.{not-suc-le-zero}
 use native.Mathlib.Omega.{arith}
-use borrow.Author.Tests.{eq-eqb, eqb-true, ne_eqb, le-leb, lt-leb}
+use borrow.Author.Tests.{eq-eqb, eqb-true, le-leb, lt-leb}
 use Rattle.effect.specs.declared.Effect.{Effect}
 use Rattle.effect.specs.Effects.{Fate, done, halt, refused}
 use Rattle.turn.specs.Turn.{turn_of}
@@ -20,7 +19,7 @@ use Rattle.nanocore.specs.Numbers.{step_number, run_number, stepping}
 use Rattle.nanocore.specs.Run.{onward, then, looked, run_by, run_of}
 use Rattle.nanocore.specs.Step.{Situation, Answered, view_of, applied, refused_at, settled, situated, step_of}
 use Rattle.nanocore.specs.Turns.{as_run, awake, counting, turns_of}
-use Rattle.nanocore.proofs.TurnLaws.{fault_stops}
+use Rattle.nanocore.proofs.TurnLaws.{fault_stops, onward_stop}
 
 -- a machine that is not halted is itself, awake
 pub awake_same : (m : Machine) → m.halted ≡ false → awake m ≡ m
@@ -30,12 +29,7 @@ pub step_awake : (input : List ℕ) (s : Situation) → s.machine.halted ≡ fal
 unfolding step_of
 step_awake input s h = rw h
 
--- an answer whose number is not 0 is the last; one that goes on is 0 alone
-onward_stop : (l : List ℕ) → 1 ≤ number_of l → onward l ≡ false
-onward_stop [] h = absurd (not-suc-le-zero h)
-onward_stop (n ∷ []) h = ne_eqb n 0 (omega arith)
-onward_stop (n ∷ v ∷ vs) h = refl
-
+-- an answer that goes on is 0 alone
 onward_zero : (l : List ℕ) → onward l ≡ true → l ≡ 0 ∷ []
 onward_zero [] h = cc
 onward_zero (n ∷ []) h = ap (λ n. n ∷ []) (eqb-true n 0 h)

@@ -1,39 +1,31 @@
 -- What so many turns come to, by what the first of them comes to.
-use Rattle.std.specs.Prelude.{◌≡◌, ℕ, zero, suc, ◌-◌, ◌<◌, ◌≤◌, false, List, [], ◌∷◌, length, Result, Ok, Err}
+use Rattle.std.specs.Prelude.{◌≡◌, ℕ, zero, suc, ◌-◌, ◌<◌, ◌≤◌, false, List, [], ◌∷◌, Result, Ok, Err}
 use mathlib.Core.Path.{refl, sym, ◌∙◌, ap}
 use native.Mathlib.Nat.{not-suc-le-zero}
 use native.Mathlib.Numerals.{sub-one}
+use native.Mathlib.Omega.{arith}
 use borrow.Author.Tests.{ne_eqb}
-use lib.ListN.{length-set}
 use Rattle.effect.specs.declared.Effect.{Effect}
-use Rattle.effect.specs.declared.Write.{Write}
-use Rattle.effect.specs.declared.Write.TheVariants.{Nothing, Register, Memory, Output}
 use Rattle.effect.specs.declared.Fault.{Fault}
-use Rattle.effect.specs.declared.Fault.TheVariants.{InvalidOpcode, StackFull, StackEmpty, DivisorZero, NoInput, NoRoom}
 use Rattle.effect.specs.declared.Turn.{Turn}
 use Rattle.effect.specs.declared.Turn.TheVariants.{Done, Halt}
-use Rattle.effect.specs.Numbers.{fate, fault_number}
+use Rattle.effect.specs.Numbers.{number_of, fate, fault_number}
+use Rattle.effect.proofs.Laws.{fault_high}
 use Rattle.turn.specs.Turn.{turn_of}
 use Rattle.nanocore.specs.Machine.{most_count}
-use Rattle.nanocore.specs.Step.{Situation, Answered, view_of, registers_after, applied, halted_at, refused_at, settled}
+use Rattle.nanocore.specs.Step.{Situation, Answered, view_of, applied, halted_at, refused_at, settled}
 use Rattle.nanocore.specs.Run.{onward, then}
 use Rattle.nanocore.specs.Turns.{turns_of}
 
--- a write leaves as many registers as there were
-pub length_registers : (w : Write) (rs : List ℕ) → length (registers_after w rs) ≡ length rs
-length_registers Nothing rs = refl
-length_registers (Register r v) rs = length-set rs r v
-length_registers (Memory a v) rs = refl
-length_registers (Output v) rs = refl
+-- an answer whose number is not 0 is the last
+pub onward_stop : (l : List ℕ) → 1 ≤ number_of l → onward l ≡ false
+onward_stop [] h = absurd (not-suc-le-zero h)
+onward_stop (n ∷ []) h = ne_eqb n 0 (omega arith)
+onward_stop (n ∷ v ∷ vs) h = refl
 
 -- no fault is answered 0
 pub fault_stops : (f : Fault) → onward (fault_number f) ≡ false
-fault_stops (InvalidOpcode o p) = refl
-fault_stops (StackFull s) = refl
-fault_stops (StackEmpty s) = refl
-fault_stops (DivisorZero o) = refl
-fault_stops NoInput = refl
-fault_stops NoRoom = refl
+fault_stops f = onward_stop (fault_number f) (omega (arith, fault_high f))
 
 module _ (input : List ℕ) (s : Situation) where
   -- the first of k turns

@@ -7,7 +7,6 @@ use effect::Write;
 
 // A register above 15 is none: no instruction names one.
 pub fn write_register(write: Write, registers: &mut [u8; 16])
-    requires { length registers.old ≡ 16 }
     ensures { registers.new ≡ registers_after write registers.old }
 {
     if let Write::Register(r, v) = write

@@ -1,5 +1,5 @@
 -- Each arm is what the law of its turn says, of the situation that the locals make.
-use Rattle.std.proofs.Common.{◌≡◌, Ok, sym, ◌∙◌, ap, arith, rules}
+use Rattle.std.proofs.Common.{◌≡◌, Ok, sym, ◌∙◌, ap, arith}
 use borrow.Author.Tests.{ltb-true}
 use Rattle.effect.specs.declared.Turn.TheVariants.{Done}
 use Rattle.effect.specs.Numbers.{fate}
@@ -13,14 +13,14 @@ returns-in-Err c =
     let at = c.loop-left in
     let s = here at.registers at.memory at.core at.tally at.output in
     rw c.ended.ensures
-    (turns_refused c.args.input.now s at.left at.invariant.3 c.loop-left-test.true c.turn.result c.turn.ensures _ c.in-Err.is)
+    (turns_refused c.args.input.now s at.left at.invariant.1 c.loop-left-test.true c.turn.result c.turn.ensures _ c.in-Err.is)
 
 pub returns-in-Ok-Halt : goal.returns-in-Ok-Halt
 returns-in-Ok-Halt c =
     let at = c.loop-left in
     let s = here at.registers at.memory at.core at.tally at.output in
     rw c.ended-in-Ok-Halt.ensures
-    (turns_halted c.args.input.now s at.left at.invariant.3 c.loop-left-test.true c.turn.result c.turn.ensures (cc))
+    (turns_halted c.args.input.now s at.left at.invariant.1 c.loop-left-test.true c.turn.result c.turn.ensures (cc))
 
 pub write_output-requires : goal.write_output-requires
 write_output-requires c =
@@ -31,12 +31,10 @@ pub loop-left-preserved : goal.loop-left-preserved
 loop-left-preserved c =
     let at = c.loop-left in
     let s = here at.registers at.memory at.core at.tally at.output in (
-      search rules,
-      c.write_register.array_long,
       omega arith,
       rw (c.write_register.ensures, c.write_memory.ensures, c.write_output.ensures.0, c.write_output.ensures.1)
-          (turns_done c.args.input.now s at.left at.invariant.3 c.loop-left-test.true c.turn.result c.turn.ensures c.in-Ok-Done.effect (cc) (omega arith)),
+          (turns_done c.args.input.now s at.left at.invariant.1 c.loop-left-test.true c.turn.result c.turn.ensures c.in-Ok-Done.effect (cc) (omega arith)),
     )
 
 pub returns : goal.returns
-returns c = rw c.ended-2.ensures (sym (turns_none _ _ _ c.loop-left-test.false) ∙ c.loop-left.invariant.3)
+returns c = rw c.ended-2.ensures (sym (turns_none _ _ _ c.loop-left-test.false) ∙ c.loop-left.invariant.1)

@@ -1,5 +1,5 @@
 -- The turns that are left, from here, come to what all of them come to from the start.
-use Rattle.std.proofs.Common.{◌≡◌, ℕ, ◌+◌, ◌≤◌, false, List, length, Ok}
+use Rattle.std.proofs.Common.{◌≡◌, ℕ, ◌+◌, ◌≤◌, false, List, Ok}
 use Rattle.effect.specs.declared.moves.Core.{Core}
 use Rattle.nanocore.specs.declared.answer.Completed.TheVariants.{Stepped}
 use Rattle.nanocore.specs.declared.turns.Tally.{Tally}
@@ -16,9 +16,7 @@ here registers memory core tally output =
 
 abbrev pub invariant-loop-left : goal.invariant-loop-left
 invariant-loop-left l =
-    (length l.output ≡ length l.fn.output)
-    × (length l.registers ≡ 16)
-    × (l.tally.count + l.left ≤ most_count)
+    (l.tally.count + l.left ≤ most_count)
     × (turns_of l.left l.input (here l.registers l.memory l.core l.tally l.output)
     ≡ turns_of l.fn.most l.input (situated (awake l.fn.machine) l.fn.place l.fn.output l.fn.written))
 
