@@ -11,8 +11,7 @@ use lib.ListN.{get_or}
 use Rattle.byte.proofs.Inverse.{undone}
 use Rattle.op.specs.declared.form.Form.{Form}
 use Rattle.op.specs.declared.operation.Op.{Op}
-use Rattle.std.specs.Prelude.{Option, Result, Ok, Err}
-use Rattle.std.specs.Prelude.{Some}
+use Rattle.std.specs.Prelude.{Option, Some, Result, Ok, Err}
 use Rattle.op.specs.Operations.{decoded, form_of}
 use Rattle.op.proofs.Laws.{decoded_byte}
 use Rattle.instruction.specs.declared.operands.Operands.{Operands}

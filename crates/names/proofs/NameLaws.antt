@@ -1,13 +1,13 @@
 -- Laws of the names that the crates above cite: a name written is read back as its operation, and a text that is read as an
 -- operation is that operation's name, byte for byte.
-use mathlib.Core.Path.{◌≡◌, refl, sym, ◌∙◌, ap}
+use mathlib.Core.Path.{◌≡◌, refl, ◌∙◌, ap}
 use mathlib.Core.Bool.{Bool, true, false, cond, ◌&&◌, and-eq-true_iff}
 use mathlib.Core.List.{List, [], ◌∷◌}
 use Prim.Native.Nat.{ℕ, zero, suc, ◌+◌, ◌≤◌}
 use native.Mathlib.Numerals.{add-one}
 use lib.Dec.{eqb, leb}
 use lib.ListN.{length, drop}
-use borrow.Author.Tests.{eqb-true, eq-eqb, leb-true}
+use borrow.Author.Tests.{eqb-true, leb-true}
 use Rattle.op.specs.declared.operation.Op.{Op}
 use Rattle.std.specs.Prelude.{Option, Some, None}
 use Rattle.std.specs.Str.{bytes_eq}
@@ -22,10 +22,6 @@ bytes_same_text [] (b ∷ t) = refl
 bytes_same_text (a ∷ s) [] = refl
 bytes_same_text (a ∷ s) (b ∷ t) = ap (λ r. eqb a b && r) (bytes_same_text s t)
 
-pub same_text_refl : (s : List ℕ) → same_text s s ≡ true
-same_text_refl [] = refl
-same_text_refl (a ∷ s) = rw (eq-eqb a a refl) (same_text_refl s)
-
 pub same_text_eq : (s t : List ℕ) → same_text s t ≡ true → s ≡ t
 same_text_eq [] [] e = refl
 same_text_eq [] (b ∷ t) e = cc
@@ -33,17 +29,6 @@ same_text_eq (a ∷ s) [] e = cc
 same_text_eq (a ∷ s) (b ∷ t) e =
     let parts = (and-eq-true_iff (eqb a b) (same_text s t)).0 e in
     cc (eqb-true a b parts.0, same_text_eq s t parts.1)
-
--- two tests that imply each other are one
-both_ways : (a b : Bool) → (a ≡ true → b ≡ true) → (b ≡ true → a ≡ true) → a ≡ b
-both_ways true b f g = sym (f refl)
-both_ways false true f g = g refl
-both_ways false false f g = refl
-
--- a test that holds exactly where two texts are equal is the definition's
-pub same_text_lem : (r : Bool) (s t : List ℕ) → (r ≡ true → s ≡ t) → (s ≡ t → r ≡ true) → r ≡ same_text s t
-same_text_lem r s t f g =
-    both_ways r (same_text s t) (λ e. rw (f e) (same_text_refl t)) (λ e. g (same_text_eq s t e))
 
 -- the operations from the place k on: that of the byte k and those behind it, or none where the byte has none
 from_place : (os : List Op) (k : ℕ) (o : Op) → op_at os k ≡ Some o → drop k os ≡ o ∷ drop (suc k) os

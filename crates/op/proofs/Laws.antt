@@ -74,15 +74,6 @@ all_agree f g (o ∷ os) e = (ap (λ l. get_or l 0 (f o)) e, all_agree f g os (a
 pub agree : {A : Type 0} (f g : Op → A) → map f ops ≡ map g ops → (o : Op) → f o ≡ g o
 agree f g e = each (λ o. f o ≡ g o) (all_agree f g ops e)
 
--- a number that is none of those below n is n or more; a match on numbers says it so of its last arm
-abbrev NoneBelow : ℕ → ℕ → Type 0
-NoneBelow zero x = Unit {0}
-NoneBelow (suc n) x = NoneBelow n x × (x ≡ n → ⊥)
-
-pub none_below : (n x : ℕ) → NoneBelow n x → n ≤ x
-none_below zero x h = omega arith
-none_below (suc n) x h = omega (arith, none_below n x h.0)
-
 -- no operation at a byte from the list's length on
 pub past : (os : List Op) (b : ℕ) → length os ≤ b → None ≡ op_at os b
 past [] b h = refl
