@@ -20,13 +20,13 @@ use Rattle.scan.specs.Scan.{first, last}
 use Rattle.source.specs.Line.{lines_of, line_of}
 use Rattle.source.specs.Words.{words_in}
 use Rattle.source.specs.Meaning.{meaning_of}
-use Rattle.table.specs.Table.{alike, found_from}
+use Rattle.table.specs.Table.{alike}
 use Rattle.labels.specs.Pass.{labelled, turn, pass, mapping_of}
 use Rattle.cases.specs.Cases.{Part, gives, Row, rows, started, said, held, answer_of, machine_of, every, fits, holds}
 
 pub all_hold : every holds rows ≡ true
 unfolding zn with_carry kept loaded flagged jumped pushed fate_of decoded_of turn_of step_of run_by load_of
-    passes first last lines_of line_of words_in named meaning_of alike found_from labelled turn pass mapping_of
+    passes first last lines_of line_of words_in named meaning_of alike labelled turn pass mapping_of
 all_hold = refl
 
 -- what passes a test throughout a list passes it in each place
