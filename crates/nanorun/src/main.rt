@@ -26,7 +26,7 @@ fn run(from: Stdin, to: Streams, rule: &[u8], limit: u16) {
     };
     let mut output = [0u8; 65536];
     let ending = run_rule(rule, limit, &input[..count], &mut output);
-    if to.print(&output[..ending.written.min(output.len())]) {
+    if to.print(&output[..ending.written]) {
         to.tell(ending.verdict.as_bytes());
     }
 }

@@ -39,7 +39,7 @@ impl Example {
         let mut printed = [0u8; 65536];
         let ending = run_rule(rule, LIMIT, input, &mut printed);
         let written = ending.written;
-        let as_wanted = if printed.get(..written) == Some(output) {
+        let as_wanted = if &printed[..written] == output {
             " as "
         } else {
             ", not as "
