@@ -41,7 +41,7 @@ struct Place {
     index: usize,
 }
 
-// What failed, and why, on standard error. It need not be UTF-8, as a file's name.
+// What failed, and why, on standard error. A file's name need not be UTF-8.
 pub fn failed(err: Stderr, what: &[u8], reason: Error) {
     let _ = err.write_all(what);
     let _ = eprintln!(err; ": {reason}");
@@ -95,15 +95,13 @@ impl fmt::Display for Remark {
                 "torn: by its own counts the case has {needed} bytes"
             ),
             Remark::Unfit => write!(f, "halted, count, limit, start or room is out of its range"),
-            Remark::Differs(kind, difference) => {
-                let Difference {
-                    part,
-                    index,
-                    ours,
-                    theirs,
-                } = difference;
-                let place = Place { kind, part, index };
-                write!(f, "{place} is {ours}, the case has {theirs}")
+            Remark::Differs(kind, d) => {
+                let place = Place {
+                    kind,
+                    part: d.part,
+                    index: d.index,
+                };
+                write!(f, "{place} is {}, the case has {}", d.ours, d.theirs)
             }
         }
     }
