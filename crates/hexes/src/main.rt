@@ -2,16 +2,13 @@
 // In a FILE a `#` and a headline begin a case, and its text stands below.
 #![tactic(auto)]
 
-ghost use Rattle.std.specs.Prelude.{◌≤◌, length};
-
 mod case;
 mod escape;
 mod say;
 
 use escape::plain;
 use program::input::{has_argument, whole_argument};
-use scan::class::Class;
-use scan::scan::{first, line_end};
+use scan::scan::line_end;
 use std::rt::{Env, Files, Stdout};
 
 fn main(rt: HostRuntime) {
@@ -26,38 +23,23 @@ fn main(rt: HostRuntime) {
 // The file that the i-th argument names. One that does not fit is not answered at all, so that no text of it is taken for a shorter one.
 fn run_file<R: Env + Files>(rt: &R, out: Stdout, i: usize) {
     let mut cases = [0u8; 65536];
-    let got = whole_argument(rt, i, &mut cases);
-    if got.failed {
-        say::unread(rt, out, i);
-        return;
+    match whole_argument(rt, i, &mut cases) {
+        Ok(count) => run_cases(out, &cases[..count]),
+        Err(_) => say::unread(rt, out, i),
     }
-    run_cases(out, &cases[..got.count]);
 }
 
 // The first case stands behind the first `#`, and each goes on to the next.
-fn run_cases(out: Stdout, cases: &[u8])
-    requires { length cases.now ≤ 65536 }
-{
-    let mut at: usize = 1;
-    while at < cases.len() {
-        let end = case_end(cases, at);
-        run_case(out, &cases[at..end]);
-        at = end + 1;
+fn run_cases(out: Stdout, cases: &[u8]) {
+    if let [_, cases @ ..] = cases {
+        for ended in cases.split_inclusive(|byte| *byte == b'#') {
+            run_case(out, ended.strip_suffix(b"#").unwrap_or(ended));
+        }
     }
 }
 
-fn case_end(cases: &[u8], at: usize) -> usize
-    requires { at ≤ length cases.now }
-    ensures lower_bound { at ≤ result }
-    ensures upper_bound { result ≤ length cases.now }
-{
-    at + first(Class::Is(b'#'), &cases[at..])
-}
-
 // The text is never longer than it is written, so it has room.
-fn run_case(out: Stdout, case: &[u8])
-    requires { length case.now ≤ 65536 }
-{
+fn run_case(out: Stdout, case: &[u8]) {
     let end = line_end(case, 0);
     say::headline(out, &case[..end]);
     if end < case.len() {

@@ -2,36 +2,30 @@
 // refusal's number, and then standard error says why.
 #![tactic(auto)]
 
-use fields::lay::lay;
-use hexwrite::write::{WriteAnswer, write};
+use hexwrite::write::{WriteRefusal, write};
 use program::input::standard_input;
-use program::say;
 use program::say::Streams;
 
 // The buffer holds far more than a rule may have, so what does not fit is too long, whatever follows.
 fn main(rt: HostRuntime) {
-    let to = Streams {
-        out: rt.stdout(),
-        err: rt.stderr(),
-    };
+    let to = Streams::new(&rt, "nanohex");
     let mut rule = [0u8; 65536];
-    let got = standard_input(rt.stdin(), to.err, b"nanohex", &mut rule);
-    if !got.failed {
-        print(to, &rule[..got.count]);
+    if let Ok(count) = standard_input(rt.stdin(), to, &mut rule) {
+        print(to, &rule[..count]);
     }
 }
 
 // The rule's bytes are set, and no others.
 fn print(to: Streams, rule: &[u8]) {
-    if rule.len() > 256 {
-        say::refused(to, b"nanohex", 11, b"a rule has at most 256 bytes");
+    let count = rule.len();
+    if count > 256 {
+        to.refused(11, "a rule has at most 256 bytes");
         return;
     }
     let mut image = [0u8; 256];
-    lay(&mut image, 0, rule);
-    let set = [1u8; 256];
+    image[..count].copy_from_slice(rule);
     let mut marks = [0u8; 256];
-    lay(&mut marks, 0, &set[..rule.len()]);
+    marks[..count].fill(1);
     print_records(to, &image, &marks);
 }
 
@@ -39,12 +33,10 @@ fn print(to: Streams, rule: &[u8]) {
 fn print_records(to: Streams, image: &[u8], marks: &[u8]) {
     let mut text = [0u8; 4096];
     match write(image, marks, &mut text) {
-        WriteAnswer::Wrote(length) => {
-            say::print(to, b"nanohex", &text, length);
+        Ok(length) => {
+            to.print(&text[..length]);
         },
-        WriteAnswer::NoRoom(needed) => {
-            say::refused(to, b"nanohex", 14, b"no room for the records");
-        },
-        WriteAnswer::NoImage => say::refused(to, b"nanohex", 19, b"an image has 256 bytes"),
+        Err(WriteRefusal::NoRoom(_)) => to.refused(14, "no room for the records"),
+        Err(WriteRefusal::NoImage) => to.refused(19, "an image has 256 bytes"),
     }
 }

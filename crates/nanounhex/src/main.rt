@@ -4,39 +4,37 @@
 
 mod say;
 
+use files::Cut;
 use hexread::read::read;
 use hexverdict::marks::set_bytes;
 use program::input::standard_input;
-use program::say::{Streams, print};
+use program::say::Streams;
 use scan::class::Class;
 use scan::scan::last;
-use std::rt::{Stderr, Stdin};
+use std::rt::Stdin;
 
 fn main(rt: HostRuntime) {
-    let to = Streams {
-        out: rt.stdout(),
-        err: rt.stderr(),
-    };
+    let to = Streams::new(&rt, "nanounhex");
     let mut text = [0u8; 65536];
-    let got = standard_input(rt.stdin(), to.err, b"nanounhex", &mut text);
-    if got.failed {
+    let Ok(count) = standard_input(rt.stdin(), to, &mut text) else {
         return;
+    };
+    if count < text.len() || is_whole(rt.stdin(), to, count) {
+        unhex(to, &text[..count]);
     }
-    if got.count == text.len() && !ended(rt.stdin(), to.err, text.len()) {
-        return;
-    }
-    unhex(to, &text[..got.count]);
 }
 
 // Whether a text that fills the buffer ends there: it is not read as if it did. Where there is more, or a read failed, that was said.
-fn ended(from: Stdin, err: Stderr, length: usize) -> bool {
+fn is_whole(from: Stdin, to: Streams, length: usize) -> bool {
     let mut next = [0u8; 1];
-    let more = standard_input(from, err, b"nanounhex", &mut next);
-    if more.count > 0 {
-        say::too_long(err, length);
-        return false;
+    match standard_input(from, to, &mut next) {
+        Ok(0) => true,
+        Err(Cut { count: 0, .. }) => false,
+        _ => {
+            say::too_long(to, length);
+            false
+        },
     }
-    !more.failed
 }
 
 // A refused text leaves image and marks clear, so none of its bytes are written.
@@ -45,7 +43,7 @@ fn unhex(to: Streams, text: &[u8]) {
     let mut marks = [0u8; 256];
     let answer = read(text, &mut image, &mut marks);
     let count = last(Class::IsNot(0), &marks);
-    if print(to, b"nanounhex", &image, count) {
-        say::verdict(to.err, answer, set_bytes(&marks));
+    if to.print(&image[..count]) {
+        say::verdict(to, answer, set_bytes(&marks));
     }
 }

@@ -1,9 +1,9 @@
--- The text keeps its length, and what is counted lies in it.
-use Rattle.std.proofs.Common.{length, ◌-◌, ◌≤◌, ◌≡◌}
+-- What is counted lies in the text; each turn leaves less to read.
+use Rattle.std.proofs.Common.{length, ◌≤◌}
 use Rattle.hexes.proofs.escape.plain.Given as goal
 
-abbrev pub invariant-loop-i : goal.invariant-loop-i
-invariant-loop-i l = (length l.text ≡ length l.initial.text) × (l.count ≤ length l.text)
+abbrev pub invariant-loop-count : goal.invariant-loop-count
+invariant-loop-count l = l.count ≤ length l.text
 
-abbrev pub decreases-loop-i : goal.decreases-loop-i
-decreases-loop-i l = length l.written - l.i
+abbrev pub decreases-loop-count : goal.decreases-loop-count
+decreases-loop-count l = length l.rest
