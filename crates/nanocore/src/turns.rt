@@ -75,8 +75,7 @@ pub fn turns(
         limit: machine.limit,
         written,
     };
-    let mut left = most;
-    while 0 < left {
+    for _ in 0..most {
         let room = tally.written < output.len();
         match turn(&registers, &memory, core, input, room) {
             Err(fault) => {
@@ -98,7 +97,6 @@ pub fn turns(
                     flags: effect.flags,
                     place: effect.place,
                 };
-                left -= 1;
             }
         }
     }
