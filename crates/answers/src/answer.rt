@@ -15,7 +15,7 @@ pub enum Kind {
 }
 
 // The numbers: number, first value, second value, pc, sp, flags, halted (0 or 1), count, limit, place, written.
-#[derive(Clone, Copy)]
+#[derive(Clone, Copy, PartialEq, Eq)]
 pub struct Answer {
     pub numbers: [usize; 11],
     pub registers: [u8; 16],

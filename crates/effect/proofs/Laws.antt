@@ -1,12 +1,13 @@
--- A fault's number and values tell the fault, and a turn's fate the turn.
+-- A fault's number and values tell the fault, and a fate the turn, or the ending of an instruction that does not halt.
 use Rattle.std.proofs.Common.{◌≡◌, ℕ, ◌<◌, cond, eqb, List, get_or, Result, Ok, Err, refl, ap, arith}
 use Rattle.byte.proofs.Inverse.{undone}
+use Rattle.effect.specs.declared.Effect.{Effect}
 use Rattle.effect.specs.declared.Fault.{Fault}
 use Rattle.effect.specs.declared.Fault.TheVariants.{InvalidOpcode, StackFull, StackEmpty, DivisorZero, NoInput, NoRoom}
 use Rattle.effect.specs.declared.Turn.{Turn}
 use Rattle.effect.specs.declared.Turn.TheVariants.{Done, Halt}
 use Rattle.effect.specs.Effects.{Fate, done, halt, refused}
-use Rattle.effect.specs.Numbers.{number_of, fault_number, fate}
+use Rattle.effect.specs.Numbers.{number_of, fault_number, ending, fate}
 
 -- the fault that has this number and these values
 abbrev pub fault_of : List ℕ → Fault
@@ -49,3 +50,16 @@ turn_as_fate (Err f) = ap Err (fault_of_number f)
 
 pub fate_injective : (t u : Result Turn Fault) → fate t ≡ fate u → t ≡ u
 fate_injective = undone fate turn_as turn_as_fate
+
+-- no ending is a halt
+abbrev ending_as : Fate → Result Effect Fault
+ending_as (done e) = Ok e
+ending_as halt = Err NoRoom
+ending_as (refused n) = Err (fault_of n)
+
+ending_as_ending : (t : Result Effect Fault) → ending_as (ending t) ≡ t
+ending_as_ending (Ok e) = refl
+ending_as_ending (Err f) = ap Err (fault_of_number f)
+
+pub ending_injective : (t u : Result Effect Fault) → ending t ≡ ending u → t ≡ u
+ending_injective = undone ending ending_as ending_as_ending

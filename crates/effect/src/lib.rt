@@ -31,7 +31,7 @@ pub struct Effect {
 }
 
 // Why an instruction may not complete.
-#[derive(Clone, Copy)]
+#[derive(Clone, Copy, PartialEq, Eq, Debug)]
 pub enum Fault {
     InvalidOpcode { opcode: u8, pc: u8 },
     StackFull(u8),

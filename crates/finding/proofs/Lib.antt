@@ -1,2 +1,3 @@
 pub mod LeftLaws
 pub mod RoomLaws
+pub mod StandingLaws

@@ -26,12 +26,11 @@ pub fn end_line() -> Line
 }
 
 // The digits of bytes, behind what the line has already.
-fn digits(line: Line, bytes: &[u8]) -> Line
+fn digits(mut line: Line, bytes: &[u8]) -> Line
     ensures { result ≡ appended line (digits_of bytes.now) }
 {
-    let mut longer = line;
     for byte in bytes {
-        longer = longer.text(&pair(*byte));
+        line = line.text(&pair(*byte));
     }
-    longer
+    line
 }

@@ -77,9 +77,8 @@ pub fn read_input(
     ensures count_le_limit { bytes_read result ≤ limit }
     ensures buffer_unchanged { drop limit buffer.new ≡ drop limit buffer.old }
 {
-    let read = files::read_some(&mut input, buffer, usize::from(limit));
-    if let Err(cut) = read {
-        to.failed(b"standard input", cut.reason);
-    }
-    read
+    files::read_some(&mut input, buffer, usize::from(limit)).inspect_err(|cut| to.failed(
+        b"standard input",
+        cut.reason,
+    ))
 }

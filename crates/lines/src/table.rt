@@ -25,7 +25,7 @@ pub fn opcode(case: &[u8]) -> Verdict
 pub fn name(case: &[u8]) -> Verdict
     ensures { result ≡ name_verdict case.now }
 {
-    let end = 1 + byte_at(case, 0) as usize;
+    let end = 1 + usize::from(byte_at(case, 0));
     let needed = end + 2;
     if case.len() != needed {
         return Err(Mismatch::Torn(needed));

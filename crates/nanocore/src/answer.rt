@@ -3,13 +3,13 @@ use crate::machine::Machine;
 use effect::Fault;
 
 // How a completed step left the machine.
-#[derive(Clone, Copy)]
+#[derive(Clone, Copy, PartialEq, Eq, Debug)]
 pub enum Completed {
     Stepped,
     Halted,
 }
 
-#[derive(Clone, Copy)]
+#[derive(Clone, Copy, PartialEq, Eq, Debug)]
 pub enum StepRefusal {
     AlreadyHalted,
     Fault(Fault),
@@ -18,7 +18,7 @@ pub enum StepRefusal {
 
 pub type StepAnswer = Result<Completed, StepRefusal>;
 
-#[derive(Clone, Copy)]
+#[derive(Clone, Copy, PartialEq, Eq, Debug)]
 pub enum RunRefusal {
     Fault(Fault),
     LimitReached(u16),
@@ -28,7 +28,7 @@ pub enum RunRefusal {
 pub type RunAnswer = Result<(), RunRefusal>;
 
 // The program does not fit from its start on.
-#[derive(Clone, Copy)]
+#[derive(Clone, Copy, PartialEq, Eq, Debug)]
 pub struct TooLong {
     pub length: usize,
     pub start: u8,
@@ -37,7 +37,7 @@ pub struct TooLong {
 pub type LoadAnswer = Result<(), TooLong>;
 
 // The image or its marks are not 256 bytes.
-#[derive(Clone, Copy)]
+#[derive(Clone, Copy, PartialEq, Eq, Debug)]
 pub struct NoImage;
 
 pub type TransferAnswer = Result<(), NoImage>;

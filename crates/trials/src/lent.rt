@@ -24,9 +24,10 @@ fn are_alike(machine: Machine, input: &[u8]) -> bool {
     let ran = all(machine.run(input, 0, &mut printed, 0));
     let mut lent = [0u8; 65536];
     let stepped = all(run_by_looks(machine, input, 0, &mut lent, 0));
-    is_same(ran, stepped) && printed == lent
+    ran == stepped && printed == lent
 }
 
+// The answer, every number, register and memory byte of the machine, the place and the number of bytes written.
 fn all(outcome: Outcome<RunAnswer>) -> Answer {
     of(
         run_number(outcome.answer),
@@ -34,11 +35,4 @@ fn all(outcome: Outcome<RunAnswer>) -> Answer {
         outcome.place,
         outcome.written,
     )
-}
-
-// The answer, every number, register and memory byte of the machine, the place and the number of bytes written.
-fn is_same(ours: Answer, theirs: Answer) -> bool {
-    ours.numbers == theirs.numbers
-        && ours.registers == theirs.registers
-        && ours.memory == theirs.memory
 }

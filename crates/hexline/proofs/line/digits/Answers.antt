@@ -10,9 +10,9 @@ pub loop-byte-preserved : goal.loop-byte-preserved
 loop-byte-preserved c =
     let l = c.loop-byte in
     let bytes = c.args.bytes.now in
-    onto l.longer c.pair.result (digits_of (drop (l.byte-index + 1) bytes)) c.text-longer.ensures
-    ∙ ap (λ two. appended l.longer (two ++ digits_of (drop (l.byte-index + 1) bytes))) c.pair.ensures
-    ∙ sym (ap (appended l.longer) (digits_next bytes l.byte-index (omega arith)))
+    onto l.line c.pair.result (digits_of (drop (l.byte-index + 1) bytes)) c.text-line.ensures
+    ∙ ap (λ two. appended l.line (two ++ digits_of (drop (l.byte-index + 1) bytes))) c.pair.ensures
+    ∙ sym (ap (appended l.line) (digits_next bytes l.byte-index (omega arith)))
     ∙ l.invariant
 
 pub returns : goal.returns

@@ -6,4 +6,4 @@ use Rattle.hexline.proofs.line.digits.Given as goal
 
 abbrev pub invariant-loop-byte : goal.invariant-loop-byte
 invariant-loop-byte l =
-    appended l.longer (digits_of (drop l.byte-index l.bytes)) ≡ appended l.initial.longer (digits_of l.bytes)
+    appended l.line (digits_of (drop l.byte-index l.bytes)) ≡ appended l.initial.line (digits_of l.bytes)
