@@ -3,7 +3,7 @@ ghost use Rattle.std.specs.Prelude.{IfSome};
 ghost use Rattle.files.specs.Counts.{IsPrefixLen};
 
 use crate::say;
-use program::say::Streams;
+use program::say::Voice;
 use std::env::FillError;
 use std::io::Error;
 use std::rt::Env;
@@ -16,39 +16,39 @@ const LIMIT: u16 = 1024;
 const NAME_TOO_LONG: i32 = 36;
 
 // The path of the rule's file and its length, or nothing after it is said why there is none.
-pub fn rule<R: Env>(rt: &R, to: Streams, path: &mut [u8]) -> Option<usize>
+pub fn rule<R: Env>(rt: &R, voice: Voice, path: &mut [u8]) -> Option<usize>
     ensures { IfSome result (λ length. IsPrefixLen length path.new) }
 {
     match rt.arg(1, path) {
         Ok(0) | Err(FillError::NotPresent) => {
-            say::usage(to);
+            say::usage(voice);
             None
         }
         Ok(length) => Some(length),
         Err(FillError::TooLong) => {
-            to.failed(b"RULE", Error::from_raw_os_error(NAME_TOO_LONG));
+            voice.failed(b"RULE", Error::from_raw_os_error(NAME_TOO_LONG));
             None
         }
     }
 }
 
 // A limit that is not there counts as empty. Where what is there is none, it is said.
-pub fn limit<R: Env>(rt: &R, to: Streams) -> Option<u16> {
+pub fn limit<R: Env>(rt: &R, voice: Voice) -> Option<u16> {
     let mut text = [0u8; 4096];
     match rt.arg(2, &mut text) {
         Ok(0) | Err(FillError::NotPresent) => Some(LIMIT),
-        Ok(length) => read_limit(to, &text[..length]),
+        Ok(length) => read_limit(voice, &text[..length]),
         Err(FillError::TooLong) => {
-            say::no_limit(to, b"that");
+            say::no_limit(voice, b"that");
             None
         }
     }
 }
 
-fn read_limit(to: Streams, text: &[u8]) -> Option<u16> {
+fn read_limit(voice: Voice, text: &[u8]) -> Option<u16> {
     let limit = number(text);
     if limit.is_none() {
-        say::no_limit(to, text);
+        say::no_limit(voice, text);
     }
     limit
 }

@@ -4,7 +4,7 @@ ghost use Rattle.files.specs.Counts.{IsPrefixLen, bytes_read};
 
 use crate::arguments;
 use files::Cut;
-use program::say::Streams;
+use program::say::Voice;
 use std::io::{Error, Read};
 use std::rt::{Env, Files, Stdin};
 
@@ -24,27 +24,27 @@ pub enum NoJob {
     Said,
 }
 
-pub fn read_rule<R: Env + Files>(rt: &R, to: Streams, buffer: &mut [u8]) -> Result<Job, NoJob>
+pub fn read_rule<R: Env + Files>(rt: &R, voice: Voice, buffer: &mut [u8]) -> Result<Job, NoJob>
     ensures { IfOk result (λ job. IsPrefixLen job.length buffer.new) }
 {
     let mut path = [0u8; 4096];
-    let length = arguments::rule(rt, to, &mut path).ok_or(NoJob::Said)?;
-    let limit = arguments::limit(rt, to).ok_or(NoJob::Said)?;
-    let length = read_file(rt, to, &path[..length], buffer)?;
+    let length = arguments::rule(rt, voice, &mut path).ok_or(NoJob::Said)?;
+    let limit = arguments::limit(rt, voice).ok_or(NoJob::Said)?;
+    let length = read_file(rt, voice, &path[..length], buffer)?;
     Ok(Job { length, limit })
 }
 
 // A rule that is longer than the buffer is read to its end, since the refusal has its length.
-fn read_file<R: Files>(rt: &R, to: Streams, path: &[u8], buffer: &mut [u8]) -> Result<usize, NoJob>
+fn read_file<R: Files>(rt: &R, voice: Voice, path: &[u8], buffer: &mut [u8]) -> Result<usize, NoJob>
     ensures { IfOk result (λ length. IsPrefixLen length buffer.new) }
 {
-    let mut file = files::open(rt, path).map_err(|reason| unread(to, path, reason))?;
-    read_opened(&mut file, to, path, buffer)
+    let mut file = files::open(rt, path).map_err(|reason| unread(voice, path, reason))?;
+    read_opened(&mut file, voice, path, buffer)
 }
 
 fn read_opened<F: Read>(
     file: &mut F,
-    to: Streams,
+    voice: Voice,
     path: &[u8],
     buffer: &mut [u8],
 ) -> Result<usize, NoJob>
@@ -52,8 +52,8 @@ fn read_opened<F: Read>(
     // Where it is known what the file has, a rule that is found is all of that.
     ensures whole { IfOk result (λ length. IfSome (F.remaining file.old) (λ xs. take length buffer.new ≡ xs)) }
 {
-    let length = files::read(file, &mut *buffer).map_err(|cut| unread(to, path, cut.reason))?;
-    let rest = files::skip(file).map_err(|cut| unread(to, path, cut.reason))?;
+    let length = files::read(file, &mut *buffer).map_err(|cut| unread(voice, path, cut.reason))?;
+    let rest = files::skip(file).map_err(|cut| unread(voice, path, cut.reason))?;
     if rest > 0 {
         return Err(NoJob::TooLong(length.wrapping_add(rest)));
     }
@@ -61,15 +61,15 @@ fn read_opened<F: Read>(
 }
 
 // Says why the rule cannot be read.
-fn unread(to: Streams, path: &[u8], reason: Error) -> NoJob {
-    to.failed(path, reason);
+fn unread(voice: Voice, path: &[u8], reason: Error) -> NoJob {
+    voice.failed(path, reason);
     NoJob::Said
 }
 
 // Each byte of input costs a step at least, so a limit can use no more bytes than its own number. Where a read failed, it was said.
 pub fn read_input(
     mut input: Stdin,
-    to: Streams,
+    voice: Voice,
     buffer: &mut [u8],
     limit: u16,
 ) -> Result<usize, Cut>
@@ -77,7 +77,7 @@ pub fn read_input(
     ensures count_le_limit { bytes_read result ≤ limit }
     ensures buffer_unchanged { drop limit buffer.new ≡ drop limit buffer.old }
 {
-    files::read_some(&mut input, buffer, usize::from(limit)).inspect_err(|cut| to.failed(
+    files::read_some(&mut input, buffer, usize::from(limit)).inspect_err(|cut| voice.failed(
         b"standard input",
         cut.reason,
     ))

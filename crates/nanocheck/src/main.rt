@@ -8,9 +8,9 @@ use spelling::check::{CheckRefusal, check};
 
 // The buffer holds far more than a rule may have, so what does not fit is too long, whatever follows.
 fn main(rt: HostRuntime) {
-    let to = Streams::new(&rt, "nanocheck");
+    let to = Streams::new(&rt, b"nanocheck");
     let mut rule = [0u8; 65536];
-    if let Ok(count) = standard_input(rt.stdin(), to, &mut rule) {
+    if let Ok(count) = standard_input(rt.stdin(), to.voice, &mut rule) {
         print(to, &rule[..count]);
     }
 }

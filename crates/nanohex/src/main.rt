@@ -8,9 +8,9 @@ use program::say::Streams;
 
 // The buffer holds far more than a rule may have, so what does not fit is too long, whatever follows.
 fn main(rt: HostRuntime) {
-    let to = Streams::new(&rt, "nanohex");
+    let to = Streams::new(&rt, b"nanohex");
     let mut rule = [0u8; 65536];
-    if let Ok(count) = standard_input(rt.stdin(), to, &mut rule) {
+    if let Ok(count) = standard_input(rt.stdin(), to.voice, &mut rule) {
         print(to, &rule[..count]);
     }
 }

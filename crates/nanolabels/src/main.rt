@@ -14,9 +14,9 @@ use table::labels::Labels;
 
 // The buffer holds far more than a source may have, so what does not fit is refused, whatever follows.
 fn main(rt: HostRuntime) {
-    let to = Streams::new(&rt, "nanolabels");
+    let to = Streams::new(&rt, b"nanolabels");
     let mut source = [0u8; 65536];
-    if let Ok(count) = standard_input(rt.stdin(), to, &mut source) {
+    if let Ok(count) = standard_input(rt.stdin(), to.voice, &mut source) {
         map(to, &source[..count]);
     }
 }

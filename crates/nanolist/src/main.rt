@@ -8,9 +8,9 @@ use program::say::Streams;
 
 // The buffer holds far more than a program may have, so what does not fit is too long, whatever follows.
 fn main(rt: HostRuntime) {
-    let to = Streams::new(&rt, "nanolist");
+    let to = Streams::new(&rt, b"nanolist");
     let mut program = [0u8; 65536];
-    if let Ok(count) = standard_input(rt.stdin(), to, &mut program) {
+    if let Ok(count) = standard_input(rt.stdin(), to.voice, &mut program) {
         print(to, &program[..count]);
     }
 }

@@ -14,9 +14,9 @@ use trace::line::line;
 use trace::look::look;
 
 fn main(rt: HostRuntime) {
-    let to = Streams::new(&rt, "nanotrace");
+    let to = Streams::new(&rt, b"nanotrace");
     let mut rule = [0u8; 65536];
-    match read_rule(&rt, to, &mut rule) {
+    match read_rule(&rt, to.voice, &mut rule) {
         Ok(job) => trace(rt.stdin(), to, &rule[..job.length], job.limit),
         Err(NoJob::TooLong(length)) => {
             say(to, too_long(length, 0));
@@ -27,7 +27,7 @@ fn main(rt: HostRuntime) {
 
 fn trace(from: Stdin, to: Streams, rule: &[u8], limit: u16) {
     let mut input = [0u8; 65536];
-    let Ok(count) = read_input(from, to, &mut input, limit) else {
+    let Ok(count) = read_input(from, to.voice, &mut input, limit) else {
         return;
     };
     let loaded = load_rule(rule, limit);

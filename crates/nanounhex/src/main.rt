@@ -14,9 +14,9 @@ use scan::scan::last;
 use std::rt::Stdin;
 
 fn main(rt: HostRuntime) {
-    let to = Streams::new(&rt, "nanounhex");
+    let to = Streams::new(&rt, b"nanounhex");
     let mut text = [0u8; 65536];
-    let Ok(count) = standard_input(rt.stdin(), to, &mut text) else {
+    let Ok(count) = standard_input(rt.stdin(), to.voice, &mut text) else {
         return;
     };
     if count < text.len() || is_whole(rt.stdin(), to, count) {
@@ -27,7 +27,7 @@ fn main(rt: HostRuntime) {
 // Whether a text that fills the buffer ends there: it is not read as if it did. Where there is more, or a read failed, that was said.
 fn is_whole(from: Stdin, to: Streams, length: usize) -> bool {
     let mut next = [0u8; 1];
-    match standard_input(from, to, &mut next) {
+    match standard_input(from, to.voice, &mut next) {
         Ok(0) => true,
         Err(Cut { count: 0, .. }) => false,
         _ => {

@@ -4,9 +4,10 @@ use program::say::Streams;
 
 // The verdict, and behind a refusal why, for whoever sent the rule.
 pub fn verdict(to: Streams, answer: Result<(), Refusal>, count: usize) {
-    to.tell(hexverdict::verdict::verdict(answer, count).as_bytes());
+    to.voice
+        .tell(hexverdict::verdict::verdict(answer, count).as_bytes());
     if let Err(refusal) = answer {
-        to.why(why(refusal));
+        to.voice.why(why(refusal));
     }
 }
 
@@ -34,8 +35,5 @@ fn why(refusal: Refusal) -> &'static str {
 }
 
 pub fn too_long(to: Streams, length: usize) {
-    let _ = eprintln!(to.err;
-        "{}: more than {length} bytes, which is more than a rule needs",
-        to.program
-    );
+    to.voice.why(format_args!("more than {length} bytes, which is more than a rule needs"));
 }

@@ -4,7 +4,7 @@ ghost use Rattle.files.specs.Counts.{IsPrefixLen, bytes_read};
 ghost use Rattle.program.specs.declared.input.NotWhole.TheVariants.{Failed};
 ghost use Rattle.program.specs.Kept.{bytes_kept};
 
-use crate::say::Streams;
+use crate::say::Voice;
 use files::Cut;
 use std::env::FillError;
 use std::io;
@@ -29,10 +29,10 @@ impl From<Cut> for NotWhole {
 }
 
 // As much as fits. Where a read failed, it was said.
-pub fn standard_input(mut input: Stdin, to: Streams, buffer: &mut [u8]) -> Result<usize, Cut>
+pub fn standard_input(mut input: Stdin, voice: Voice, buffer: &mut [u8]) -> Result<usize, Cut>
     ensures { IsPrefixLen (bytes_read result) buffer.new }
 {
-    files::read(&mut input, buffer).inspect_err(|cut| to.failed(b"standard input", cut.reason))
+    files::read(&mut input, buffer).inspect_err(|cut| voice.failed(b"standard input", cut.reason))
 }
 
 // Whether there is an i-th argument, however long it is.

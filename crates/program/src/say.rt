@@ -5,22 +5,54 @@ use std::fmt::Display;
 use std::io::{Error, Result};
 use std::rt::{Stderr, Stdout};
 
-// Where a program writes, and its name, which stands before what it says.
+// Standard error, and the program's name, which stands before what it says there. It need not be UTF-8.
 #[derive(Clone, Copy)]
-pub struct Streams {
-    pub out: Stdout,
+pub struct Voice<'a> {
     pub err: Stderr,
-    pub program: &'static str,
+    pub program: &'a [u8],
 }
 
-impl Streams {
-    pub fn new(rt: &HostRuntime, program: &'static str) -> Streams
-        ensures { result.program.now ≡ program.now }
+// Where a program writes.
+#[derive(Clone, Copy)]
+pub struct Streams<'a> {
+    pub out: Stdout,
+    pub voice: Voice<'a>,
+}
+
+impl<'a> Voice<'a> {
+    // The bytes to standard error. Where they cannot be written, there is no one to say so to.
+    pub fn tell(mut self, bytes: &[u8]) {
+        let _ = files::write(&mut self.err, bytes);
+    }
+
+    pub fn why<D: Display + Drop>(self, words: D) {
+        self.name();
+        let _ = eprintln!(self.err; "{words}");
+    }
+
+    // Why a call failed. What it was about need not be text, as a file's name.
+    pub fn failed(self, what: &[u8], reason: Error) {
+        self.name();
+        self.tell(what);
+        let _ = eprintln!(self.err; ": {reason}");
+    }
+
+    fn name(self) {
+        self.tell(self.program);
+        self.tell(b": ");
+    }
+}
+
+impl<'a> Streams<'a> {
+    pub fn new(rt: &HostRuntime, program: &'a [u8]) -> Streams<'a>
+        ensures { result.voice.program.now ≡ program.now }
     {
         Streams {
             out: rt.stdout(),
-            err: rt.stderr(),
-            program,
+            voice: Voice {
+                err: rt.stderr(),
+                program,
+            },
         }
     }
 
@@ -30,33 +62,18 @@ impl Streams {
         self.is_written(written)
     }
 
-    // The bytes to standard error. Where they cannot be written, there is no one to say so to.
-    pub fn tell(mut self, bytes: &[u8]) {
-        let _ = files::write(&mut self.err, bytes);
-    }
-
     // The number on standard output, and why on standard error.
     pub fn refused<D: Display + Drop>(self, number: usize, words: D) {
         self.is_written(println!(self.out; "refused {number}"));
-        let _ = eprintln!(self.err; "{}: refused: {words}", self.program);
-    }
-
-    pub fn why<D: Display + Drop>(self, words: D) {
-        let _ = eprintln!(self.err; "{}: {words}", self.program);
-    }
-
-    // Why a call failed. What it was about need not be text, as a file's name.
-    pub fn failed(self, what: &[u8], reason: Error) {
-        let _ = eprint!(self.err; "{}: ", self.program);
-        self.tell(what);
-        let _ = eprintln!(self.err; ": {reason}");
+        self.voice.name();
+        let _ = eprintln!(self.voice.err; "refused: {words}");
     }
 
     fn is_written(self, written: Result<()>) -> bool {
         match written {
             Ok(()) => true,
             Err(reason) => {
-                self.failed(b"standard output", reason);
+                self.voice.failed(b"standard output", reason);
                 false
             }
         }
