@@ -28,8 +28,10 @@ pub fn wrapping_sub(a: u8, b: u8) -> u8
 pub fn overflowing_sub(a: u8, b: u8) -> Carried
     ensures { result ≡ difference_of a b }
 {
-    let (value, carry) = a.overflowing_sub(b);
-    Carried { value, carry }
+    Carried {
+        value: wrapping_sub(a, b),
+        carry: a < b,
+    }
 }
 
 // By the exact product: where the library's method looks for a carry, it divides.

@@ -5,6 +5,7 @@ ghost use Rattle.effect.specs.Numbers.{ending};
 
 use crate::moves::Core;
 use crate::{Effect, Fault, Write};
+use byte::arithmetic::wrapping_sub;
 
 // sp at a full stack and at an empty one.
 pub const STACK_MIN: u8 = 0xEA;
@@ -23,7 +24,7 @@ impl Core {
         Ok(Effect {
             write: Write::Memory(self.sp, value),
             pc: to,
-            sp: self.sp.wrapping_sub(1),
+            sp: wrapping_sub(self.sp, 1),
             flags: self.flags,
             place: self.place,
         })

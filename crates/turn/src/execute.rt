@@ -7,6 +7,7 @@ ghost use Rattle.instruction.specs.Operands.{operands_of};
 
 use byte::arithmetic::{
     overflowing_add, overflowing_div, overflowing_mul, overflowing_rem, overflowing_sub,
+    wrapping_sub,
 };
 use byte::flags::{FLAG_Z, get_flag};
 use byte::shift::{rotate_left, rotate_right, shift_left, shift_right};
@@ -58,7 +59,7 @@ pub fn execute(
         Op::SUB => core.result(2, d, overflowing_sub(at_d, at_s)),
         Op::SUBI => core.result(3, s, overflowing_sub(at_s, third(memory, pc))),
         Op::INC => core.load(2, s, at_s.wrapping_add(1)),
-        Op::DEC => core.load(2, s, at_s.wrapping_sub(1)),
+        Op::DEC => core.load(2, s, wrapping_sub(at_s, 1)),
         Op::AND => core.load(2, d, at_d & at_s),
         Op::OR => core.load(2, d, at_d | at_s),
         Op::XOR => core.load(2, d, at_d ^ at_s),
