@@ -17,7 +17,7 @@ pub fn label(to: Streams, name: &[u8], address: u8) -> bool {
 // The verdict on standard output, and why on standard error: a label may be called `refused`, so standard output alone does not tell.
 pub fn refused(to: Streams, refusal: Refusal) {
     to.print(verdict(refusal).as_bytes());
-    to.voice.why(Why(refusal));
+    to.voice.explain(Why(refusal));
 }
 
 // A refusal in words.

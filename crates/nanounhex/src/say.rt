@@ -7,7 +7,7 @@ pub fn verdict(to: Streams, answer: Result<(), Refusal>, count: usize) {
     to.voice
         .tell(hexverdict::verdict::verdict(answer, count).as_bytes());
     if let Err(refusal) = answer {
-        to.voice.why(why(refusal));
+        to.voice.why(why(refusal).as_bytes());
     }
 }
 
@@ -35,5 +35,5 @@ fn why(refusal: Refusal) -> &'static str {
 }
 
 pub fn too_long(to: Streams, length: usize) {
-    to.voice.why(format_args!("more than {length} bytes, which is more than a rule needs"));
+    to.voice.explain(format_args!("more than {length} bytes, which is more than a rule needs"));
 }

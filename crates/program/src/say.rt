@@ -25,7 +25,14 @@ impl<'a> Voice<'a> {
         let _ = files::write(&mut self.err, bytes);
     }
 
-    pub fn why<D: Display + Drop>(self, words: D) {
+    // Why, in words that need not be text.
+    pub fn why(self, words: &[u8]) {
+        self.name();
+        self.end(words);
+    }
+
+    // The same, of what is shown as text.
+    pub fn explain<D: Display + Drop>(self, words: D) {
         self.name();
         let _ = eprintln!(self.err; "{words}");
     }
@@ -35,6 +42,12 @@ impl<'a> Voice<'a> {
         self.name();
         self.tell(what);
         let _ = eprintln!(self.err; ": {reason}");
+    }
+
+    // The last words of a line.
+    fn end(self, words: &[u8]) {
+        self.tell(words);
+        self.tell(b"\n");
     }
 
     fn name(self) {
@@ -63,10 +76,11 @@ impl<'a> Streams<'a> {
     }
 
     // The number on standard output, and why on standard error.
-    pub fn refused<D: Display + Drop>(self, number: usize, words: D) {
+    pub fn refused(self, number: usize, words: &[u8]) {
         self.is_written(println!(self.out; "refused {number}"));
         self.voice.name();
-        let _ = eprintln!(self.voice.err; "refused: {words}");
+        self.voice.tell(b"refused: ");
+        self.voice.end(words);
     }
 
     fn is_written(self, written: Result<()>) -> bool {
