@@ -26,6 +26,6 @@ abbrev pub mapping : Result Labels Refusal → Mapping
 mapping r = told (map_number r) (labels_of r)
 
 -- how the pass stands after a line
-abbrev pub progress : Result Stand Refusal → Progress
-progress (Ok s) = goes s.address s.labels
-progress (Err refusal) = refused (refusal_number refusal)
+abbrev pub progress : Result Unit Refusal → Stand → Progress
+progress (Ok done) s = goes s.address s.labels
+progress (Err refusal) s = refused (refusal_number refusal)

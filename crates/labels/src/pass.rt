@@ -45,7 +45,7 @@ fn over_lines(source: &[u8]) -> Result<Labels, Refusal>
             number: i + 1,
             bytes,
         };
-        stand = stand.after(&raw)?;
+        stand.after(&raw)?;
         place += bytes.len() + 1;
     }
     Ok(stand.labels)

@@ -25,15 +25,18 @@ impl Stand {
     }
 
     #[tactic(auto, unfolding(crate::specs::Pass::turn))]
-    pub fn after(self, raw: &RawLine) -> Result<Stand, Refusal>
-        ensures { progress result
-            ≡ turn raw.now.source.now raw.now.place raw.now.number self.address self.labels raw.now.bytes.now }
+    pub fn after(&mut self, raw: &RawLine) -> Result<(), Refusal>
+        ensures { progress result self.new
+            ≡ turn raw.now.source.now raw.now.place raw.now.number self.old.address self.old.labels raw.now.bytes.now }
     {
         let span = line(raw.bytes);
         let text = &raw.bytes[span.from..span.to];
         match Meaning::of(text) {
-            Ok(Meaning::Nothing) => Ok(self),
-            Ok(Meaning::Bytes(n)) => Ok(self.moved(n)),
+            Ok(Meaning::Nothing) => Ok(()),
+            Ok(Meaning::Bytes(n)) => {
+                self.address = moved(self.address, n);
+                Ok(())
+            },
             Ok(Meaning::Label) => {
                 let size = last(Class::IsNot(b':'), text);
                 self.labelled(raw, raw.place + span.from, size)
@@ -43,35 +46,30 @@ impl Stand {
         }
     }
 
-    // Addresses wrap modulo 256.
-    fn moved(self, bytes: usize) -> Stand
-        ensures address_value { result.address ≡ (self.address + bytes) % 256 }
-        ensures labels_value { result.labels ≡ self.labels }
-    {
-        Stand {
-            address: self.address.wrapping_add((bytes % 256) as u8),
-            labels: self.labels,
-        }
-    }
-
     // The name that stands at a place in the source gets the address.
     #[tactic(auto, unfolding(crate::specs::Pass::labelled))]
-    fn labelled(self, raw: &RawLine, place: usize, size: usize) -> Result<Stand, Refusal>
+    fn labelled(&mut self, raw: &RawLine, place: usize, size: usize) -> Result<(), Refusal>
         requires place_bound { place ≤ 16384 }
         requires size_bound { size ≤ 16384 }
-        ensures { progress result
-            ≡ labelled raw.now.source.now self.labels place size raw.now.number self.address }
+        ensures { progress result self.new
+            ≡ labelled raw.now.source.now self.old.labels place size raw.now.number self.old.address }
     {
         let place = place as u16;
         let size = size as u16;
-        let labels = match found(self.labels, raw.source, place, size) {
-            Some(i) => readdress(self.labels, i, self.address),
-            None if self.labels.count < 64 => add(self.labels, place, size, self.address),
+        match found(self.labels, raw.source, place, size) {
+            Some(i) => self.labels = readdress(self.labels, i, self.address),
+            None if self.labels.count < 64 => {
+                self.labels = add(self.labels, place, size, self.address);
+            },
             None => return Err(Refusal::TooManyLabels(raw.number)),
-        };
-        Ok(Stand {
-            address: self.address,
-            labels,
-        })
+        }
+        Ok(())
     }
+}
+
+// Addresses wrap modulo 256.
+fn moved(address: u8, bytes: usize) -> u8
+    ensures { result ≡ (address + bytes) % 256 }
+{
+    address.wrapping_add((bytes % 256) as u8)
 }
