@@ -3,10 +3,12 @@ ghost use Rattle.std.specs.Prelude.{◌≡◌, ◌++◌};
 ghost use Rattle.digits.specs.Digit.{pair_of};
 ghost use Rattle.names.specs.Names.{name_of};
 ghost use Rattle.text.specs.Lines.{appended, lined};
+ghost use Rattle.front.specs.declared.front.Front.TheVariants.{Whole};
 ghost use Rattle.front.specs.Line.{byte_text, line_of, operands_text, register_text, spaced, then, words_of};
 
 use digits::digit::pair;
 use front::front::Front;
+use instruction::decode::Instruction;
 use instruction::operands::Operands;
 use names::name::name;
 use op::operation::Op;
@@ -18,25 +20,24 @@ pub fn line(address: u8, front: Front, bytes: &[u8]) -> Line
     ensures { result ≡ lined (line_of address front bytes.now) }
 {
     let begun = byte(Line::empty(), address);
-    words(begun, front, bytes).text(b"\n")
+    // each arm ends its line itself: a line that both handed on took twice as long
+    match front {
+        Front::Whole(found) => words(begun, found, bytes).text(b"\n"),
+        Front::Alone(b) => then_byte(begun.text(b" .DB"), b).text(b"\n"),
+    }
 }
 
 // Below, each puts its words behind what the line has already.
 
 // Of an instruction that is not plain all bytes are said, or as many as there are.
-fn words(line: Line, front: Front, bytes: &[u8]) -> Line
-    ensures { result ≡ appended line (words_of front bytes.now) }
+fn words(line: Line, found: Instruction, bytes: &[u8]) -> Line
+    ensures { result ≡ appended line (words_of (Whole found) bytes.now) }
 {
-    match front {
-        Front::Whole(found) => {
-            if found.plain {
-                operand_words(then_name(line, found.op), found.operands)
-            } else {
-                let few = usize::from(found.op.instruction_len()).min(bytes.len());
-                then_bytes(line.text(b" .DB"), &bytes[..few], b"0x")
-            }
-        },
-        Front::Alone(b) => then_byte(line.text(b" .DB"), b),
+    if found.plain {
+        operand_words(then_name(line, found.op), found.operands)
+    } else {
+        let few = usize::from(found.op.instruction_len()).min(bytes.len());
+        then_bytes(line.text(b" .DB"), &bytes[..few], b"0x")
     }
 }
 
