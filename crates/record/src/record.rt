@@ -1,5 +1,6 @@
 // The record of a machine: 296 bytes. What so many bytes hold is read whatever they are; whether they are a record at all is asked apart.
 ghost use Rattle.std.specs.Prelude.{true, cond, ◌≡◌, eqb, length};
+ghost use Rattle.fields.specs.Read.{stretch as bytes_from};
 ghost use Rattle.record.specs.Record.{head_of, is_record, machine_of, record_of};
 
 use crate::four::{four, four_at};
@@ -23,7 +24,7 @@ pub fn read(bytes: &[u8]) -> Machine
     ensures { result ≡ machine_of bytes.now }
 {
     Machine {
-        registers: stretch(bytes, 24),
+        registers: registers(bytes),
         memory: stretch(bytes, 40),
         pc: byte_at(bytes, 2),
         sp: byte_at(bytes, 3),
@@ -32,6 +33,13 @@ pub fn read(bytes: &[u8]) -> Machine
         count: (four_at(bytes, 8) % 65536) as u16,
         limit: (four_at(bytes, 12) % 65536) as u16,
     }
+}
+
+// The sixteen behind the head.
+fn registers(bytes: &[u8]) -> [u8; 16]
+    ensures { result ≡ bytes_from bytes.now 24 16 }
+{
+    stretch(bytes, 24)
 }
 
 // The record of the machine, where the bytes are as many as a record has; it is one that is_record knows.

@@ -12,6 +12,6 @@ returns c =
       c.byte_at-3.ensures,
       c.byte_at-2.ensures,
       c.byte_at.ensures,
-      c.stretch-2.ensures,
       c.stretch.ensures,
+      c.registers.ensures,
     )
