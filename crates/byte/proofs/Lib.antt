@@ -1,3 +1,4 @@
+pub mod Product
 pub mod Below
 pub mod FlagLaws
 pub mod Inverse

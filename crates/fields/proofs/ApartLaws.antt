@@ -2,14 +2,14 @@
 use mathlib.Core.Path.{◌≡◌, refl, sym, ◌∙◌}
 use mathlib.Core.Bool.{Bool, true, false, cond, ◌&&◌}
 use mathlib.Core.List.{List, [], ◌∷◌, ◌++◌}
-use Prim.Native.Nat.{ℕ, suc, ◌+◌, ◌≤◌}
+use Prim.Native.Nat.{ℕ, suc, ◌+◌, ◌≤◌, ◌<◌}
 use native.Mathlib.Omega.{arith}
 use lib.Dec.{eqb}
-use lib.ListN.{length, take}
+use lib.ListN.{length, length-drop, get_or, take, drop, drop_of_length-le}
 use borrow.Author.Tests.{eqb-true, eq-eqb, ne_eqb}
 use Rattle.std.specs.List.{starts_with}
 use Rattle.std.specs.Cmp.Lexicographic.{pointwise}
-use Rattle.std.proofs.lemmas.List.Sums.{common_prefix_len-le}
+use Rattle.std.proofs.lemmas.List.Sums.{common_prefix_len-le, common_prefix_len-drop_no, common_prefix_len-drop_yes}
 use Rattle.fields.specs.Apart.{alike}
 
 pub alike_most : (a b : List ℕ) → alike a b ≤ length a
@@ -58,3 +58,35 @@ starts_alike (x ∷ xs) (y ∷ ys) = by (eqb x y) (starts_alike xs ys)
         (same && pointwise eqb xs (take (length xs) ys)) ≡ eqb (cond same (1 + alike xs ys) 0) (suc (length xs))
     by true rest = rest ∙ one_more (alike xs ys) (length xs)
     by false rest = sym (ne_eqb 0 (suc (length xs)) (λ e. omega arith))
+
+-- Laws that stand for themselves. Up to i the lists are alike.
+pub record Along (a b : List ℕ) (i : ℕ) : Type 0 where
+  pub first : i ≤ length a
+  pub second : i ≤ length b
+  pub count : alike a b ≡ i + alike (drop i a) (drop i b)
+
+-- where the two part, within both
+abbrev pub Parted : List ℕ → List ℕ → ℕ → Type 0
+Parted a b i = (i ≡ alike a b) × ((i ≤ length a) × (i ≤ length b))
+
+pub begun : (a b : List ℕ) → Along a b 0
+begun a b = record { first = omega arith; second = omega arith; count = omega arith }
+
+module _ {a b : List ℕ} {i : ℕ} (along : Along a b i) where
+  stopped : alike (drop i a) (drop i b) ≡ 0 → Parted a b i
+  stopped none = (omega arith, (along.first, along.second))
+
+  pub first_ended : length a ≤ i → Parted a b i
+  first_ended h = stopped (rw (drop_of_length-le a h))
+
+  pub second_ended : length b ≤ i → Parted a b i
+  second_ended h = stopped (omega (arith, (common_prefix_len-le eqb (drop i a) (drop i b)).1, length-drop i b))
+
+  module _ (ha : i < length a) (hb : i < length b) where
+    pub differs : (get_or a i 0 ≡ get_or b i 0 → ⊥) → Parted a b i
+    differs apart = stopped (common_prefix_len-drop_no eqb a b i 0 0 ha hb (ne_eqb (get_or a i 0) (get_or b i 0) apart))
+
+    pub onward : get_or a i 0 ≡ get_or b i 0 → Along a b (i + 1)
+    onward same =
+        let step = common_prefix_len-drop_yes eqb a b i 0 0 ha hb (eq-eqb (get_or a i 0) (get_or b i 0) same) in
+        record { first = omega arith; second = omega arith; count = omega (arith, along.count, step) }

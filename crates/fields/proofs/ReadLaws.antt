@@ -1,7 +1,7 @@
 -- Laws of the bytes at a place.
 use mathlib.Core.Path.{◌≡◌, refl, sym, ◌∙◌, ap}
 use mathlib.Core.Bool.{Bool, true, false}
-use mathlib.Core.List.{List, ◌∷◌, ◌++◌}
+use mathlib.Core.List.{List, [], ◌∷◌, ◌++◌}
 use Prim.Native.Nat.{ℕ, zero, suc, min, ◌+◌, ◌*◌, ◌-◌, ◌≤◌, ◌<◌}
 use native.Mathlib.Nat.{add-zero}
 use native.Mathlib.Numerals.{add-one}
@@ -80,5 +80,14 @@ word_some bytes four at e four_long h =
       le-leb (at + 4) (length bytes) long,
     )
     (omega arith)
+
+-- Laws that stand for themselves: one byte more of a stretch stands at its end.
+pub stretch_more :
+    (bytes : List ℕ) (at n : ℕ) → stretch bytes at (suc n) ≡ stretch bytes at n ++ (byte_at bytes (at + n) ∷ [])
+stretch_more bytes at zero = let here : at ≡ at + 0 = omega arith in ap (λ k. byte_at bytes k ∷ []) here
+stretch_more bytes at (suc n) =
+    let next : at + 1 + n ≡ at + suc n = omega arith in
+    ap (λ s. byte_at bytes at ∷ s)
+    (stretch_more bytes (at + 1) n ∙ ap (λ k. stretch bytes (at + 1) n ++ (byte_at bytes k ∷ [])) next)
 
 pub ruleset word_laws = (word_none, word_some)

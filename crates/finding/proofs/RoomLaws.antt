@@ -37,8 +37,8 @@ encoded_few : (o : Op) (a : Operands) → Few (encoded_of o a)
 unfolding encoded_of
 encoded_few o a = tested (same_form (shape_of a) (form_of o)) (registers_exist a) o a
 
-pub encoded_within : {e : Encoding} (o : Op) (a : Operands) → e ≡ encoded_of o a → e.length ≤ 3
-encoded_within o a e = rw e (encoded_few o a).0
+pub encoded_within : {e : Encoding} (o : Op) (a : Operands) → e ≡ encoded_of o a → (e.length ≤ 3) × (e.length ≤ length e.bytes)
+encoded_within o a e = let few = encoded_few o a in rw e (few.0, omega arith)
 
 line_length :
     (address : ℕ) (bytes plainly : List ℕ) → length bytes ≤ 3 → length plainly ≤ 3 → length (line_of address bytes plainly) ≤ 29

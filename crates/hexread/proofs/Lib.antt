@@ -1,3 +1,4 @@
 pub mod PlaceLaws
 pub mod LineLaws
+mod ReadLaws
 pub mod AnswerLaws

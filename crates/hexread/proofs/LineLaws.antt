@@ -40,7 +40,7 @@ line_read number line s (b ∷ rest) h = by (eqb b 0x0a) h (line_read number (li
         rw (behind, ← append_assoc line (b ∷ []) (take f rest)) (next (omega arith))
 
 -- without LF there is no line
-line_open :
+pub line_open :
     (number : ℕ) (line : List ℕ) (s : Sheet) (text : List ℕ) → 0 < length line + length text → length text ≤ first (Is 0x0a) text →
     lines_from number line s text ≡ rejected (20 ∷ number ∷ [])
 unfolding lines_from first passes

@@ -2,15 +2,16 @@
 use mathlib.Core.Path.{◌≡◌, refl, sym, ◌∙◌, ap}
 use mathlib.Core.Bool.{true, false}
 use mathlib.Core.List.{List, [], ◌∷◌, ◌++◌, append-nil, append_assoc}
-use Prim.Native.Nat.{ℕ, ◌+◌, ◌-◌, ◌≤◌, ◌<◌}
+use Prim.Native.Nat.{ℕ, ◌+◌, ◌*◌, ◌-◌, ◌≤◌, ◌<◌}
 use native.Mathlib.Omega.{arith}
 use borrow.Author.Tests.{lt-ltb, le-ltb}
 use borrow.Rule.Slice.PartMut.{put_mid, Post-is}
-use lib.ListN.{length, take, drop, replicate, length-drop, length-replicate, take-append-drop}
+use lib.ListN.{length, get_or, take, drop, replicate, length-drop, length-replicate, take-append-drop}
 use lib.Seq.{length-take-le}
 use Rattle.scan.specs.declared.class.Class.TheVariants.{IsNot}
 use Rattle.scan.specs.Scan.{first, some}
-use Rattle.hexread.specs.File.{goes, refused, sheet, filled, put}
+use Rattle.hexline.specs.Row.{address_of, count_of, data_of}
+use Rattle.hexread.specs.File.{Sheet, goes, refused, sheet, filled, put}
 
 part_length : (xs : List ℕ) (a n : ℕ) → a + n ≤ length xs → length (take (a + n - a) (drop a xs)) ≡ n
 part_length xs a n h =
@@ -83,3 +84,11 @@ module _ (number : ℕ) (image marks : List ℕ) (address : ℕ) (held : List �
                   (sym (length-replicate (length held) 1))
                   (o ∙ ap (λ n. replicate n 1) marks-there),
             )
+
+-- Laws that stand for themselves: address and data of a record that is as long as it says, from its bytes.
+pub of_record :
+    (number : ℕ) (s : Sheet) (bs : List ℕ) {high low : ℕ} → high ≡ get_or bs 1 0 → low ≡ get_or bs 2 0 → length bs ≡ count_of bs + 5 →
+    put number s (high * 256 + low) (take (length bs - 1 - 4) (drop 4 bs)) ≡ put number s (address_of bs) (data_of bs)
+of_record number s bs h l whole =
+    let size : length bs - 1 - 4 ≡ count_of bs = omega arith in
+    rw (h, l, size)

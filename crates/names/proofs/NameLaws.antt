@@ -1,13 +1,13 @@
 -- Laws of the names that the crates above cite: a name written is read back as its operation, and a text that is read as an
 -- operation is that operation's name, byte for byte.
-use mathlib.Core.Path.{◌≡◌, refl, ◌∙◌, ap}
+use mathlib.Core.Path.{◌≡◌, refl, sym, ◌∙◌, ap}
 use mathlib.Core.Bool.{Bool, true, false, cond, ◌&&◌, and-eq-true_iff}
 use mathlib.Core.List.{List, [], ◌∷◌}
 use Prim.Native.Nat.{ℕ, zero, suc, ◌+◌, ◌≤◌}
 use native.Mathlib.Numerals.{add-one}
 use lib.Dec.{eqb, leb}
 use lib.ListN.{length, drop}
-use borrow.Author.Tests.{eqb-true, leb-true}
+use borrow.Author.Tests.{eqb-true, eq-eqb, leb-true}
 use Rattle.op.specs.declared.operation.Op.{Op}
 use Rattle.std.specs.Prelude.{Option, Some, None}
 use Rattle.std.specs.Str.{bytes_eq}
@@ -85,3 +85,16 @@ in_exact (p ∷ os) t o e =
 pub named_exact : (t : List ℕ) (o : Op) → named t ≡ Some o → t ≡ name_of o
 unfolding named
 named_exact t o e = in_exact ops t o e
+
+-- Laws that stand for themselves: a test that holds exactly where two texts are equal is the definition's.
+pub same_text_refl : (s : List ℕ) → same_text s s ≡ true
+same_text_refl [] = refl
+same_text_refl (a ∷ s) = rw (eq-eqb a a refl) (same_text_refl s)
+
+pub same_text_lem : (r : Bool) (s t : List ℕ) → (r ≡ true → s ≡ t) → (s ≡ t → r ≡ true) → r ≡ same_text s t
+same_text_lem true s t f g = sym (rw (f refl) (same_text_refl t))
+same_text_lem false s t f g = by (same_text s t) refl
+  where
+    by : (b : Bool) → same_text s t ≡ b → false ≡ b
+    by true e = g (same_text_eq s t e)
+    by false e = refl

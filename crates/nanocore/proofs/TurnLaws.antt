@@ -1,19 +1,22 @@
 -- What so many turns come to, by what the first of them comes to.
-use Rattle.std.specs.Prelude.{◌≡◌, ℕ, zero, suc, ◌-◌, ◌<◌, ◌≤◌, false, List, [], ◌∷◌, Result, Ok, Err}
+use Rattle.std.specs.Prelude.{◌≡◌, ℕ, zero, suc, ◌-◌, ◌<◌, ◌≤◌, false, List, [], ◌∷◌, Result, Ok, Err, length}
 use mathlib.Core.Path.{refl, sym, ◌∙◌, ap}
 use native.Mathlib.Nat.{not-suc-le-zero}
 use native.Mathlib.Numerals.{sub-one}
 use native.Mathlib.Omega.{arith}
 use borrow.Author.Tests.{ne_eqb}
+use lib.ListN.{length-set}
 use Rattle.effect.specs.declared.Effect.{Effect}
 use Rattle.effect.specs.declared.Fault.{Fault}
 use Rattle.effect.specs.declared.Turn.{Turn}
 use Rattle.effect.specs.declared.Turn.TheVariants.{Done, Halt}
+use Rattle.effect.specs.declared.Write.{Write}
+use Rattle.effect.specs.declared.Write.TheVariants.{Nothing, Register, Memory, Output}
 use Rattle.effect.specs.Numbers.{number_of, fate, fault_number}
 use Rattle.effect.proofs.Laws.{fault_high}
 use Rattle.turn.specs.Turn.{turn_of}
 use Rattle.nanocore.specs.Machine.{most_count}
-use Rattle.nanocore.specs.Step.{Situation, Answered, view_of, applied, halted_at, refused_at, settled}
+use Rattle.nanocore.specs.Step.{Situation, Answered, view_of, registers_after, applied, halted_at, refused_at, settled}
 use Rattle.nanocore.specs.Run.{onward, then}
 use Rattle.nanocore.specs.Turns.{turns_of}
 
@@ -54,3 +57,10 @@ module _ (input : List ℕ) (s : Situation) (k : ℕ) {t : Answered} (all : turn
 
   pub turns_done : (a : Effect) → r ≡ Ok (Done a) → (s.machine.count ≡ most_count → ⊥) → turns_of (k - 1) input (applied a s) ≡ t
   turns_done a e below = sym (first input s k some ∙ rw (sym next, e, ne_eqb _ _ below)) ∙ all
+
+-- Laws that stand for themselves: a write leaves as many registers as there were.
+pub length_registers : (w : Write) (rs : List ℕ) → length (registers_after w rs) ≡ length rs
+length_registers Nothing rs = refl
+length_registers (Register r v) rs = length-set rs r v
+length_registers (Memory a v) rs = refl
+length_registers (Output v) rs = refl

@@ -115,3 +115,12 @@ length_within Form.RegImm = (omega arith, omega arith)
 length_within Form.RegReg = (omega arith, omega arith)
 length_within Form.RegAddr = (omega arith, omega arith)
 length_within Form.Addr = (omega arith, omega arith)
+
+-- Laws that stand for themselves: a number that is none of those below n is n or more.
+abbrev NoneBelow : ℕ → ℕ → Type 0
+NoneBelow zero x = Unit {0}
+NoneBelow (suc n) x = NoneBelow n x × (x ≡ n → ⊥)
+
+pub none_below : (n x : ℕ) → NoneBelow n x → n ≤ x
+none_below zero x h = omega arith
+none_below (suc n) x h = omega (arith, none_below n x h.0)

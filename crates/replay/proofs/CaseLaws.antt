@@ -68,3 +68,8 @@ same_everything ours theirs output expected n r m o e =
           ∙ ap (λ l. made theirs.numbers theirs.registers l) same_memory,
       parted_same Output output expected o rest.1,
     )
+
+-- Laws that stand for themselves: every verdict but one.
+abbrev pub differs : Result (Unit {0}) Mismatch → Type 0
+differs (Ok t) = ⊥
+differs (Err mismatch) = Unit {0}

@@ -1,8 +1,9 @@
 -- Laws of lines: a stretch of a stretch, what stands in front of a trimmed text, and the parts of a source between its LFs.
-use Rattle.std.proofs.Common.{◌≡◌, refl, ◌∙◌, ap, inl, inr, ◌⊎◌, ⊎_elim, Bool, true, false, cond, List, [], ◌∷◌, ◌++◌, ℕ, zero, suc, ◌+◌, ◌-◌, ◌≤◌, not-suc-le-zero, arith, eqb, length, take, drop, length-drop, length-take-le, drop-drop}
+use Rattle.std.proofs.Common.{◌≡◌, refl, ◌∙◌, ap, inl, inr, ◌⊎◌, ⊎_elim, Bool, true, false, cond, List, [], ◌∷◌, ◌++◌, ℕ, zero, suc, ◌+◌, ◌-◌, ◌≤◌, ◌<◌, not-suc-le-zero, arith, eqb, length, take, drop, length-drop, length-take-le, drop-drop}
 use Rattle.std.specs.List.{slice_split, onto_first}
 use lib.Seq.{take-take, take-nil}
 use Rattle.scan.specs.declared.class.Class.{Class}
+use Rattle.scan.specs.declared.class.Class.TheVariants.{Is}
 use Rattle.scan.specs.Class.{passes}
 use Rattle.scan.specs.Scan.{first}
 use Rattle.source.specs.declared.line.Span.{Span}
@@ -81,3 +82,28 @@ lines_parted (b ∷ bs) = by (eqb b 0x0a) (slice_split (λ b. eqb b 0x0a) bs) (l
     by true parts lines same = ⊎_elim (λ e. inl (ap (λ l. [] ∷ l) e)) (λ e. inr (ap (λ l. [] ∷ l) e)) same
     by false parts [] same = inl (⊎_elim (λ e. ap (onto_first b) e) (λ e. ap (onto_first b) e) same)
     by false parts (line ∷ lines) same = ⊎_elim (λ e. inl (ap (onto_first b) e)) (λ e. inr (ap (onto_first b) e)) same
+
+-- Laws that stand for themselves: the first line of a source goes to its first LF, and the others begin behind that.
+pub first_line :
+    (s : List ℕ) → 0 < length s →
+    lines_of s ≡ take (first (Is 0x0a) s) s ∷ lines_of (drop (first (Is 0x0a) s + 1) s)
+unfolding lines_of first passes
+first_line [] h = absurd (not-suc-le-zero h)
+first_line (b ∷ []) h = alone (eqb b 0x0a)
+  where
+    alone :
+        (ends : Bool) →
+        cond ends ([] ∷ []) ((b ∷ []) ∷ []) ≡ take (cond ends 0 1) (b ∷ []) ∷ lines_of (drop (cond ends 0 1 + 1) (b ∷ []))
+    alone true = refl
+    alone false = refl
+first_line (b ∷ c ∷ cs) h = either (eqb b 0x0a) (first_line (c ∷ cs) (omega arith))
+  where
+    k : ℕ
+    k = first (Is 0x0a) (c ∷ cs)
+
+    either :
+        (ends : Bool) → lines_of (c ∷ cs) ≡ take k (c ∷ cs) ∷ lines_of (drop (k + 1) (c ∷ cs)) →
+        cond ends ([] ∷ lines_of (c ∷ cs)) (on_first b (lines_of (c ∷ cs))) ≡
+        take (cond ends 0 (suc k)) (b ∷ c ∷ cs) ∷ lines_of (drop (cond ends 0 (suc k) + 1) (b ∷ c ∷ cs))
+    either true more = refl
+    either false more = let next : suc k + 1 ≡ suc (k + 1) = omega arith in rw (next, more)

@@ -1,10 +1,10 @@
 -- Laws of words and beginnings.
-use Rattle.std.proofs.Common.{◌≡◌, refl, sym, ap, ◌∙◌, ℕ, suc, zero-add, ◌+◌, ◌≤◌, Bool, true, false, not, cond, ◌||◌, true≢false, eqb, nat_eq, List, [], ◌∷◌, length, take, drop, filter, arith}
+use Rattle.std.proofs.Common.{◌≡◌, refl, sym, ap, ◌∙◌, ℕ, suc, zero-add, not-suc-le-zero, ◌+◌, ◌≤◌, ◌<◌, Bool, true, false, not, cond, ◌||◌, true≢false, eqb, nat_eq, List, [], ◌∷◌, length, take, drop, filter, arith}
 use Rattle.std.specs.Cmp.Lexicographic.{pointwise}
 use Rattle.std.specs.List.{slice_split, onto_first}
 use Rattle.std.proofs.lemmas.Bool.Decides.{nat_tests}
 use Rattle.std.proofs.Math.Dec.{eqb-suc-zero}
-use mathlib.Core.Bool.{and-eq-true_iff}
+use mathlib.Core.Bool.{and-false, and-eq-true_iff}
 use borrow.Author.Tests.{eqb-true}
 use Rattle.text.specs.Text.{codes}
 use Rattle.scan.specs.Class.{blank}
@@ -57,3 +57,17 @@ data_words [] e = absurd (true≢false (sym e))
 data_words (b ∷ bs) e =
     let both = (and-eq-true_iff (eqb b 46) (same_text (take 2 bs) (codes "DB"))).0 e in
     rw (eqb-true b 46 both.0) (omega arith)
+
+-- Laws that stand for themselves: at a byte one word begins at most.
+zero_or_one : (is : Bool) → cond is 0 1 ≤ 1
+zero_or_one true = omega arith
+zero_or_one false = omega arith
+
+pub begun_one : (inside : Bool) (b : ℕ) → begun inside b ≤ 1
+begun_one inside b = zero_or_one (inside || blank b)
+
+-- a line that is shorter than a beginning does not begin with it
+pub starts_short : (beginning line : List ℕ) → length line < length beginning → starts beginning line ≡ false
+starts_short [] line h = absurd (not-suc-le-zero h)
+starts_short (a ∷ beginning) [] h = refl
+starts_short (a ∷ beginning) (b ∷ line) h = rw (starts_short beginning line (omega arith)) (and-false (eqb b a))

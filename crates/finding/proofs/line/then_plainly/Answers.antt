@@ -6,7 +6,7 @@ use Rattle.finding.proofs.line.then_plainly.Goals as goal
 
 pub shared_ref_as_front-then_bytes : goal.shared_ref_as_front-then_bytes
 shared_ref_as_front-then_bytes c =
-    omega (arith, c.from.ensures, encoded_within c.args.op c.args.operands c.in-Ok.ensures)
+    omega (arith, c.from.ensures, (encoded_within c.args.op c.args.operands c.in-Ok.ensures).0)
 
 pub returns-in-Err : goal.returns-in-Err
 unfolding appended
