@@ -1,5 +1,5 @@
 // What one line does: it moves the address on, gives it a name, or is refused.
-ghost use Rattle.std.specs.Prelude.{◌≡◌, ◌+◌, ◌%◌, ◌≤◌};
+ghost use Rattle.std.specs.Prelude.{◌≡◌, ◌+◌, ◌%◌, ◌≤◌, IfErr};
 ghost use Rattle.table.specs.Table.{no_labels};
 ghost use Rattle.labels.specs.Numbers.{progress};
 ghost use Rattle.labels.specs.Pass.{labelled, turn};
@@ -26,8 +26,9 @@ impl Stand {
 
     #[tactic(auto, unfolding(crate::specs::Pass::turn))]
     pub fn after(&mut self, raw: &RawLine) -> Result<(), Refusal>
-        ensures { progress result self.new
+        ensures value { progress result self.new
             ≡ turn raw.now.source.now raw.now.place raw.now.number self.old.address self.old.labels raw.now.bytes.now }
+        ensures self_unchanged { IfErr result (λ _. self.new ≡ self.old) }
     {
         let span = line(raw.bytes);
         let text = &raw.bytes[span.from..span.to];
@@ -51,8 +52,9 @@ impl Stand {
     fn labelled(&mut self, raw: &RawLine, place: usize, size: usize) -> Result<(), Refusal>
         requires place_bound { place ≤ 16384 }
         requires size_bound { size ≤ 16384 }
-        ensures { progress result self.new
+        ensures value { progress result self.new
             ≡ labelled raw.now.source.now self.old.labels place size raw.now.number self.old.address }
+        ensures self_unchanged { IfErr result (λ _. self.new ≡ self.old) }
     {
         let place = place as u16;
         let size = size as u16;

@@ -32,7 +32,7 @@ returns-in_err-after-clause-result_value c =
     let l = c.loop-i in
     let source = c.args.source.now in
     let at = part_at source _ _ (YieldsList-turn (YieldsList-from_enumerate (YieldsList-from_slice_split _ (λ b. eqb b 0x0a) source (cc) (cc) (cc) (λ x r q k. search (rules, tests))) (cc)) l.yielded _ l.yielded_by _ _ (c.in-Some.i, c.in-Some.bytes) c.in-Some.is c.next.ensures.steps) in
-    let ends = line_refused source (length l.yielded) c.in-Some.i l.place l.stand.address l.stand.labels c.in-Some.bytes.now at _ (sym c.in_err-after.ensures) in
+    let ends = line_refused source (length l.yielded) c.in-Some.i l.place l.stand.address l.stand.labels c.in-Some.bytes.now at _ (sym c.in_err-after.ensures.value) in
     let p = err_from_is_err_and c.from_residual.result c.from_residual.ensures.1 in
     rw (p.1, p.2) (ap ended (sym ends ∙ l.invariant.passes))
 
@@ -44,7 +44,7 @@ loop-i-preserved c =
     let at = part_at source _ _ (YieldsList-turn (YieldsList-from_enumerate (YieldsList-from_slice_split _ (λ b. eqb b 0x0a) source (cc) (cc) (cc) (λ x r q k. search (rules, tests))) (cc)) l.yielded _ l.yielded_by _ _ (c.in-Some.i, c.in-Some.bytes) c.in-Some.is c.next.ensures.steps) in
     let next = length_push l.yielded (c.in-Some.i, c.in-Some.bytes) in
     let more = bytes_on source (length l.yielded) c.in-Some.i l.place l.stand.address l.stand.labels raw at in
-    let turned = line_turned source (length l.yielded) c.in-Some.i l.place l.stand.address l.stand.labels raw at _ (sym c.in_ok-after.ensures) in
+    let turned = line_turned source (length l.yielded) c.in-Some.i l.place l.stand.address l.stand.labels raw at _ (sym c.in_ok-after.ensures.value) in
     record {
       can_next = search of_calls;
       is_finite = search of_calls;
