@@ -22,7 +22,7 @@ fn print(to: Streams, rule: &[u8]) {
         Ok(length) => {
             to.print(&text[..length]);
         }
-        Err(CheckRefusal::TooLong(_)) => to.refused(11, b"a rule has at most 256 bytes"),
-        Err(CheckRefusal::NoRoom(_)) => to.refused(14, b"no room for the lines"),
+        Err(CheckRefusal::TooLong(_)) => to.refused_why(11, b"a rule has at most 256 bytes"),
+        Err(CheckRefusal::NoRoom(_)) => to.refused_why(14, b"no room for the lines"),
     }
 }

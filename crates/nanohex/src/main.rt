@@ -19,7 +19,7 @@ fn main(rt: HostRuntime) {
 fn print(to: Streams, rule: &[u8]) {
     let count = rule.len();
     if count > 256 {
-        to.refused(11, b"a rule has at most 256 bytes");
+        to.refused_why(11, b"a rule has at most 256 bytes");
         return;
     }
     let mut image = [0u8; 256];
@@ -36,7 +36,7 @@ fn print_records(to: Streams, image: &[u8], marks: &[u8]) {
         Ok(length) => {
             to.print(&text[..length]);
         },
-        Err(WriteRefusal::NoRoom(_)) => to.refused(14, b"no room for the records"),
-        Err(WriteRefusal::NoImage) => to.refused(19, b"an image has 256 bytes"),
+        Err(WriteRefusal::NoRoom(_)) => to.refused_why(14, b"no room for the records"),
+        Err(WriteRefusal::NoImage) => to.refused_why(19, b"an image has 256 bytes"),
     }
 }

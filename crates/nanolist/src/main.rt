@@ -22,7 +22,7 @@ fn print(to: Streams, program: &[u8]) {
         Ok(length) => {
             to.print(&text[..length]);
         }
-        Err(ListRefusal::TooLong { .. }) => to.refused(11, b"a program has at most 256 bytes"),
-        Err(ListRefusal::NoRoom(_)) => to.refused(14, b"no room for the lines"),
+        Err(ListRefusal::TooLong { .. }) => to.refused_why(11, b"a program has at most 256 bytes"),
+        Err(ListRefusal::NoRoom(_)) => to.refused_why(14, b"no room for the lines"),
     }
 }

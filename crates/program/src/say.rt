@@ -75,12 +75,19 @@ impl<'a> Streams<'a> {
         self.is_written(written)
     }
 
-    // The number on standard output, and why on standard error.
-    pub fn refused(self, number: usize, words: &[u8]) {
+    // The number on standard output, and why on standard error, in words that need not be text.
+    pub fn refused_why(self, number: usize, words: &[u8]) {
         self.is_written(println!(self.out; "refused {number}"));
         self.voice.name();
         self.voice.tell(b"refused: ");
         self.voice.end(words);
+    }
+
+    // The same, of what is shown as text.
+    pub fn refused<D: Display + Drop>(self, number: usize, words: D) {
+        self.is_written(println!(self.out; "refused {number}"));
+        self.voice.name();
+        let _ = eprintln!(self.voice.err; "refused: {words}");
     }
 
     fn is_written(self, written: Result<()>) -> bool {
