@@ -1,4 +1,4 @@
-// refusals: refuses numbers of one digit to twenty, in words that are shown as text and in words that need not be.
+// refusals: refuses numbers of one digit to twenty, in words shown as text and in words that need not be text.
 // The gate runs it.
 #![tactic(auto)]
 
